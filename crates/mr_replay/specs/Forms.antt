@@ -1,0 +1,62 @@
+-- The forms of single words: numbers, addresses, names of devices.
+use Rattle.std.specs.Prelude.{ℕ, ◌+◌, ◌-◌, ◌*◌, ◌==◌, ◌&&◌, ◌||◌, Bool, not, nat_lt, nat_le, if◌then◌else◌, Option, Some, None, List, [], ◌∷◌, length, fold, bytes_eq, codes, slice_index}
+use Rattle.std.specs.List.{list_all, list_any}
+use Rattle.mr_replay.specs.declared.scenario.Named.{Named}
+
+abbrev pub is_digit : ℕ → Bool
+is_digit b = nat_le 48 b && nat_le b 57
+
+-- digits without sign, and no zero in front of others
+abbrev pub is_numeral : List ℕ → Bool
+is_numeral w = nat_lt 0 (length w) && list_all is_digit w && (length w == 1 || not (slice_index w 0 == 48))
+
+-- one more decimal digit
+abbrev pub digit_on : ℕ → ℕ → ℕ
+digit_on value b = value * 10 + (b - 48)
+
+-- the number that a word spells, where it is at most `most`
+abbrev pub number_of : ℕ → List ℕ → Option ℕ
+number_of most w = if is_numeral w && nat_le (fold digit_on 0 w) most then Some (fold digit_on 0 w) else None
+
+-- the bytes before the first dot
+abbrev pub before_dot : List ℕ → List ℕ
+before_dot [] = []
+before_dot (b ∷ bs) = if b == 46 then [] else b ∷ before_dot bs
+
+-- the parts behind the first dot
+abbrev pub parts_behind : List ℕ → List (List ℕ)
+parts_behind [] = []
+parts_behind (b ∷ bs) = if b == 46 then before_dot bs ∷ parts_behind bs else parts_behind bs
+
+-- the parts of a word that dots part
+abbrev pub parts_of : List ℕ → List (List ℕ)
+parts_of bs = before_dot bs ∷ parts_behind bs
+
+-- an address from its four numbers
+abbrev pub joined : Option ℕ → Option ℕ → Option ℕ → Option ℕ → Option ℕ
+joined (Some a) (Some b) (Some c) (Some d) = Some (((a * 256 + b) * 256 + c) * 256 + d)
+joined _ _ _ _ = None
+
+abbrev pub address_of_parts : List (List ℕ) → Option ℕ
+address_of_parts (a ∷ b ∷ c ∷ d ∷ []) = joined (number_of 255 a) (number_of 255 b) (number_of 255 c) (number_of 255 d)
+address_of_parts _ = None
+
+-- an address: four numbers of 0 to 255 parted by dots
+abbrev pub address_of : List ℕ → Option ℕ
+address_of w = address_of_parts (parts_of w)
+
+abbrev pub is_letter : ℕ → Bool
+is_letter b = (nat_le 65 b && nat_le b 90) || (nat_le 97 b && nat_le b 122)
+
+-- a letter, a digit, `.`, `_`, `-` or `:`
+abbrev pub is_name_byte : ℕ → Bool
+is_name_byte b = is_letter b || is_digit b || b == 46 || b == 95 || b == 45 || b == 58
+
+-- 1 to 15 such bytes, a letter first; `pimreg` is the register device's
+abbrev pub is_device_name : List ℕ → Bool
+is_device_name w =
+    nat_lt 0 (length w) && nat_le (length w) 15 && is_letter (slice_index w 0) && list_all is_name_byte w
+    && not (bytes_eq w (codes "pimreg"))
+
+abbrev pub is_taken : List Named → List ℕ → Bool
+is_taken devices w = list_any (λ d. bytes_eq d.name w) devices

@@ -1,0 +1,9 @@
+pub mod Words
+pub mod Forms
+pub mod Spelled
+pub mod Made
+pub mod Text
+pub mod Played
+pub mod Fits
+pub mod Built
+pub mod Endings

@@ -1,0 +1,146 @@
+-- What the lines of a scenario spell, as far as they are built: `scenario 1` first, then head lines, then phases.
+use Rattle.std.specs.Prelude.{ℕ, ◌+◌, ◌&&◌, Bool, true, false, not, min, nat_lt, is_none, if◌then◌else◌, Option, Some, None, option_and_then, option_to_list, Result, Ok, Err, List, [], ◌∷◌, ◌++◌, length, map, bytes_eq, codes}
+use Rattle.mr_base.specs.declared.device.Device.{Device}
+use Rattle.mr_model.specs.declared.limits.Limits.{Limits}
+use Rattle.mr_model.specs.declared.request.Request.TheVariants.{Init}
+use Rattle.mr_replay.specs.declared.draft.Draft.{Draft}
+use Rattle.mr_replay.specs.declared.scenario.DaemonKind.{DaemonKind}
+use Rattle.mr_replay.specs.declared.scenario.DaemonKind.TheVariants.{Plain, Admin}
+use Rattle.mr_replay.specs.declared.scenario.Named.{Named}
+use Rattle.mr_replay.specs.declared.scenario.Phase.{Phase}
+use Rattle.mr_replay.specs.declared.scenario.Scenario.{Scenario}
+use Rattle.mr_replay.specs.declared.scenario.Script.{Script}
+use Rattle.mr_replay.specs.declared.scenario.Script.TheVariants.{Ask}
+use Rattle.mr_replay.specs.declared.scenario.ScriptLine.{ScriptLine}
+use Rattle.mr_replay.specs.Words.{lines_of, without_return, words_of}
+use Rattle.mr_replay.specs.Forms.{number_of, address_of, is_device_name, is_taken}
+
+-- a word, and a condition on what follows
+abbrev pub when : {A : Type 0} → Bool → Option A → Option A
+when test further = if test then further else None
+
+-- `scenario 1`
+abbrev pub header_line : Draft → List (List ℕ) → Option Draft
+header_line d (a ∷ b ∷ []) = when (bytes_eq a (codes "scenario") && bytes_eq b (codes "1")) (Some (record d { begun = true }))
+header_line d _ = None
+
+abbrev pub with_device : Draft → List ℕ → ℕ → Draft
+with_device d name addr = record d { devices = d.devices ++ record { name = name; addr = record { 0 = addr } } ∷ [] }
+
+-- `device NAME ADDRESS`, among the head lines, at most 64
+abbrev pub device_line : Draft → List (List ℕ) → Option Draft
+device_line d (name ∷ addr ∷ []) =
+    when (is_none d.current)
+    (when (is_device_name name && not (is_taken d.devices name))
+    (option_and_then (λ a. when (nat_lt (length d.devices) 64) (Some (with_device d name a))) (address_of addr)))
+device_line d _ = None
+
+-- `daemon admin`, among the head lines, once
+abbrev pub daemon_head : Draft → List (List ℕ) → Option Draft
+daemon_head d (kind ∷ []) =
+    when (bytes_eq kind (codes "admin")) (when (nat_lt (length d.daemons) 1) (Some (record d { daemons = d.daemons ++ Admin ∷ [] })))
+daemon_head d _ = None
+
+-- `init`
+abbrev pub script_of : List (List ℕ) → Option Script
+script_of (op ∷ []) = when (bytes_eq op (codes "init")) (Some (Ask Init))
+script_of _ = None
+
+abbrev pub with_script : Phase → ScriptLine → Phase
+with_script p l = record p { script = p.script ++ l ∷ [] }
+
+abbrev pub with_line : Draft → ScriptLine → Phase → Draft
+with_line d l p = record d { asked = d.asked + 1; current = Some (with_script p l) }
+
+-- the line of a daemon that is declared; 65,536 of them at most
+abbrev pub asked_line : ℕ → Draft → Phase → ℕ → Script → Option Draft
+asked_line n d p number s =
+    when (nat_lt 0 number && nat_lt d.asked 65536)
+    (Some (with_line d (record { line = n; daemon = record { 0 = number }; script = s }) p))
+
+-- `daemon D OP ..`, in a phase
+abbrev pub script_line : ℕ → Draft → Phase → List (List ℕ) → Option Draft
+script_line n d p [] = None
+script_line n d p (number ∷ ws) =
+    option_and_then (λ i. option_and_then (asked_line n d p i) (script_of ws)) (number_of (length d.daemons) number)
+
+abbrev pub daemon_line_in : ℕ → Draft → Option Phase → List (List ℕ) → Option Draft
+daemon_line_in n d None ws = daemon_head d ws
+daemon_line_in n d (Some p) ws = script_line n d p ws
+
+-- the phases that have ended once another line begins one
+abbrev pub phases_so_far : Draft → List Phase
+phases_so_far d = d.phases ++ option_to_list d.current
+
+abbrev pub with_phase : ℕ → Draft → Draft
+with_phase n d = record d { phases = phases_so_far d; current = Some (record { line = n; items = []; script = [] }) }
+
+-- `phase`, at most 1,000
+abbrev pub phase_line : ℕ → Draft → List (List ℕ) → Option Draft
+phase_line n d [] = when (nat_lt (length (phases_so_far d)) 1000) (Some (with_phase n d))
+phase_line n d _ = None
+
+abbrev pub line_by_word : ℕ → Draft → List ℕ → List (List ℕ) → Option Draft
+line_by_word n d w ws =
+    if bytes_eq w (codes "device") then device_line d ws
+    else (if bytes_eq w (codes "daemon") then daemon_line_in n d d.current ws
+    else (if bytes_eq w (codes "phase") then phase_line n d ws
+    else None))
+
+-- What line n, of these words, makes of the draft; none where its form is not built. A line without words is passed over.
+abbrev pub line_of : ℕ → Draft → List (List ℕ) → Option Draft
+line_of n d [] = Some d
+line_of n d (w ∷ ws) = if d.begun then line_by_word n d w ws else header_line d (w ∷ ws)
+
+-- the number of the next line; it stops at the greatest of 32 bits
+abbrev pub next_line : ℕ → ℕ
+next_line n = min (n + 1) 4294967295
+
+-- the next line's draft, or the number of the line that is not built
+abbrev pub line_gives : ℕ → Option Draft → Result Draft ℕ
+line_gives n None = Err n
+line_gives n (Some d) = Ok d
+
+infixl 10 ◌>>=◌
+abbrev pub ◌>>=◌ : {A B E : Type 0} → Result A E → (A → Result B E) → Result B E
+(Ok x) >>= f = f x
+(Err e) >>= f = Err e
+
+abbrev pub draft_line : ℕ → Draft → List ℕ → Result Draft ℕ
+draft_line n d l = line_gives n (line_of n d (words_of (without_return l)))
+
+-- the draft after lines of which the first has number n
+abbrev pub draft_from : ℕ → Draft → List (List ℕ) → Result Draft ℕ
+draft_from n d [] = Ok d
+draft_from n d (l ∷ ls) = draft_line n d l >>= λ t. draft_from (next_line n) t ls
+
+abbrev pub empty_draft : Draft
+empty_draft = record { begun = false; devices = []; daemons = []; asked = 0; phases = []; current = None }
+
+abbrev pub is_admin_kind : DaemonKind → Bool
+is_admin_kind Admin = true
+is_admin_kind Plain = false
+
+abbrev pub device_of : Named → Device
+device_of d = record { addr = d.addr }
+
+-- The limits are the defaults: 1,024 entries, 10 waiting entries, 65,536 control entries. There is one lane, without packets.
+abbrev pub limits_of : Draft → Limits
+limits_of d = record {
+  entries = 1024; unresolved = 10; controls = 65536;
+  phases = length (phases_so_far d);
+  packets = 0 ∷ [];
+  admins = map is_admin_kind d.daemons;
+  devices = map device_of d.devices;
+}
+
+-- the scenario of all lines; without `scenario 1` the first line is not built
+abbrev pub whole : Draft → Result Scenario ℕ
+whole d =
+    if d.begun
+    then Ok (record { limits = limits_of d; devices = d.devices; lanes = 1; daemons = d.daemons; phases = phases_so_far d })
+    else Err 1
+
+-- the scenario that bytes spell, or the first line of a form that is not built
+abbrev pub spelled : List ℕ → Result Scenario ℕ
+spelled bytes = draft_from 1 empty_draft (lines_of bytes) >>= whole

@@ -1,0 +1,9 @@
+//! The top call: a scenario is read, run and written as its history.
+#![tactic(auto)]
+
+mod draft;
+mod scenario;
+mod status;
+
+pub use scenario::{DaemonKind, Given, Item, Named, Phase, Scenario, Script, ScriptLine};
+pub use status::Status;
