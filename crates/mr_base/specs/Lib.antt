@@ -1,2 +1,4 @@
 pub mod Errnos
 pub mod Heads
+pub mod Outside
+pub mod MemStores

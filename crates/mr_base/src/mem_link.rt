@@ -1,0 +1,79 @@
+ghost use Rattle.std.specs.Prelude.{◌≡◌, ◌≤◌, ◌<◌, ◌-◌, Some, OnOk, OnErr, [], length, drop, min};
+ghost use Rattle.mr_base.specs.Outside.{Rose, Takes};
+
+use crate::link::Link;
+use crate::numbers::Failed;
+use std::alloc::Global;
+
+/// A link in memory, which tells.
+#[derive(Drop)]
+pub struct MemLink {
+    input: Vec<u8>,
+    at: usize,
+    piece: u32,
+    sent: Vec<u8>,
+    faults: u64,
+    ghost in_input: { at ≤ length input.items },
+    ghost moves: { 1 ≤ piece },
+}
+
+impl MemLink {
+    /// A link by which `input` is to come, at most `piece` bytes at a call. `fails` has the numbers, from
+    /// 1, of the calls that are to fail; for now it has to be empty.
+    pub fn with(alloc: Global, input: Vec<u8>, piece: u32, fails: Vec<u64>) -> Self
+        requires moves { 1 ≤ piece }
+        requires no_fails { fails.items ≡ [] }
+        ensures to_come { ⟦<MemLink as Link>⟧.to_come result ≡ Some input.items }
+        ensures taken { ⟦<MemLink as Link>⟧.taken result ≡ Some [] }
+        ensures faults { ⟦<MemLink as Link>⟧.faults result ≡ 0 }
+    {
+        MemLink {
+            input,
+            at: 0,
+            piece,
+            sent: Vec::new(alloc),
+            faults: 0,
+        }
+    }
+
+    /// The bytes taken so far.
+    pub fn taken(&self) -> &[u8]
+        ensures { ⟦<MemLink as Link>⟧.taken self.now ≡ Some result.now }
+    {
+        self.sent.as_slice()
+    }
+
+    /// How many bytes a `get` moves into a space of this length.
+    fn next_len(&self, space: usize) -> usize
+        ensures { result ≡ min space (min self.now.piece (length (drop self.now.at self.now.input.items))) }
+    {
+        space.min((self.piece as usize).min(self.input.len() - self.at))
+    }
+}
+
+impl Link for MemLink {
+    ghost use Rattle.std.specs.Prelude.{Some, drop};
+
+    ghost to_come = { λ l. Some (drop l.at l.input.items) };
+
+    ghost taken = { λ l. Some l.sent.items };
+
+    ghost faults = { λ l. l.faults };
+
+    fn get(&mut self, space: &mut [u8]) -> Result<usize, Failed> {
+        let n = self.next_len(space.len());
+        space[..n].copy_from_slice(&self.input[self.at..self.at + n]);
+        self.at += n;
+        Ok(n)
+    }
+
+    fn put(&mut self, bytes: &[u8]) -> Result<(), Failed> {
+        match self.sent.extend_from_slice(bytes) {
+            Ok(()) => Ok(()),
+            Err(_) => {
+                self.faults = self.faults.saturating_add(1);
+                Err(Failed)
+            }
+        }
+    }
+}
