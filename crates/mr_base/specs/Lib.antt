@@ -1,4 +1,6 @@
+pub mod AcceptedHeads
 pub mod Errnos
 pub mod Heads
-pub mod Outside
 pub mod MemStores
+pub mod Outside
+pub mod WorkedHeads

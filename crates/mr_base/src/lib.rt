@@ -25,6 +25,7 @@ mod route;
 mod sink;
 mod store;
 mod vif_record;
+mod worked;
 
 pub use clock::Clock;
 pub use device::Device;
@@ -49,3 +50,4 @@ pub use route::Route;
 pub use sink::Sink;
 pub use store::Store;
 pub use vif_record::VifRecord;
+pub use worked::worked_heads;

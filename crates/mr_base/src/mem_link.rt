@@ -1,4 +1,4 @@
-ghost use Rattle.std.specs.Prelude.{◌≡◌, ◌≤◌, ◌<◌, ◌-◌, Some, OnOk, OnErr, [], length, drop, min};
+ghost use Rattle.std.specs.Prelude.{◌≡◌, ◌≤◌, ◌<◌, ◌-◌, Some, OnOk, OnErr, [], length, take, drop, min};
 ghost use Rattle.mr_base.specs.Outside.{Rose, Takes};
 
 use crate::link::Link;
@@ -43,11 +43,13 @@ impl MemLink {
         self.sent.as_slice()
     }
 
-    /// How many bytes a `get` moves into a space of this length.
-    fn next_len(&self, space: usize) -> usize
-        ensures { result ≡ min space (min self.now.piece (length (drop self.now.at self.now.input.items))) }
+    /// The next bytes to come, at most the piece and this many.
+    fn next_bytes(&self, most: usize) -> &[u8]
+        ensures { result.now ≡ take (min most self.now.piece) (drop self.now.at self.now.input.items) }
     {
-        space.min((self.piece as usize).min(self.input.len() - self.at))
+        let (_, to_come) = self.input.split_at(self.at);
+        let n = most.min(self.piece as usize).min(to_come.len());
+        &to_come[..n]
     }
 }
 
@@ -61,8 +63,9 @@ impl Link for MemLink {
     ghost faults = { λ l. l.faults };
 
     fn get(&mut self, space: &mut [u8]) -> Result<usize, Failed> {
-        let n = self.next_len(space.len());
-        space[..n].copy_from_slice(&self.input[self.at..self.at + n]);
+        let bytes = self.next_bytes(space.len());
+        let n = bytes.len();
+        space[..n].copy_from_slice(bytes);
         self.at += n;
         Ok(n)
     }
