@@ -1,5 +1,5 @@
 -- A packet as it comes in and as it is sent on, and changes of it that are refused.
-use Rattle.std.specs.Prelude.{ℕ, List, [], ◌∷◌, take, slice_set}
+use Rattle.std.specs.Prelude.{ℕ, ◌+◌, ◌*◌, List, [], ◌∷◌, take, slice_set}
 
 -- A UDP packet of 28 bytes from 10.0.0.9 to 239.1.1.1 with TTL 2:
 -- 4500001c 00010000 0211bec5 0a000009 ef010101, and then 03e803e9 00080000.
@@ -49,3 +49,42 @@ to_local = 69 ∷ 0 ∷ 0 ∷ 28 ∷ 0 ∷ 1 ∷ 0 ∷ 0 ∷ 2 ∷ 17 ∷ 205 �
 abbrev pub from_loopback : List ℕ
 from_loopback = 69 ∷ 0 ∷ 0 ∷ 28 ∷ 0 ∷ 1 ∷ 0 ∷ 0 ∷ 2 ∷ 17 ∷ 73 ∷ 205 ∷ 127 ∷ 0 ∷ 0 ∷ 1 ∷ 239 ∷ 1 ∷ 1 ∷ 1
     ∷ 3 ∷ 232 ∷ 3 ∷ 233 ∷ 0 ∷ 8 ∷ 0 ∷ 0 ∷ []
+
+-- A head of 24 bytes with the option of RFC 2113, TTL 5: 46000020 00074000 0511e6b6 0a000009 ef010101 94040000,
+-- and 8 bytes more.
+abbrev pub with_option : List ℕ
+with_option = 70 ∷ 0 ∷ 0 ∷ 32 ∷ 0 ∷ 7 ∷ 64 ∷ 0 ∷ 5 ∷ 17 ∷ 230 ∷ 182 ∷ 10 ∷ 0 ∷ 0 ∷ 9 ∷ 239 ∷ 1 ∷ 1 ∷ 1
+    ∷ 148 ∷ 4 ∷ 0 ∷ 0 ∷ 3 ∷ 232 ∷ 3 ∷ 233 ∷ 0 ∷ 8 ∷ 0 ∷ 0 ∷ []
+
+-- the head with which it is sent on: 46000020 00074000 0411e7b6 0a000009 ef010101 94040000
+abbrev pub option_sent_on : List ℕ
+option_sent_on = 70 ∷ 0 ∷ 0 ∷ 32 ∷ 0 ∷ 7 ∷ 64 ∷ 0 ∷ 4 ∷ 17 ∷ 231 ∷ 182 ∷ 10 ∷ 0 ∷ 0 ∷ 9 ∷ 239 ∷ 1 ∷ 1 ∷ 1
+    ∷ 148 ∷ 4 ∷ 0 ∷ 0 ∷ []
+
+-- the number of the address a.b.c.d
+abbrev pub address : ℕ → ℕ → ℕ → ℕ → ℕ
+address a b c d = ((a * 256 + b) * 256 + c) * 256 + d
+
+-- the ends of the ranges that are no sources
+abbrev pub bad_sources : List ℕ
+bad_sources = address 0 0 0 0 ∷ address 0 255 255 255 ∷ address 127 0 0 0 ∷ address 127 255 255 255
+    ∷ address 224 0 0 0 ∷ address 239 255 255 255 ∷ address 255 255 255 255 ∷ []
+
+-- the addresses beside those ranges
+abbrev pub good_sources : List ℕ
+good_sources = address 1 0 0 0 ∷ address 126 255 255 255 ∷ address 128 0 0 0 ∷ address 223 255 255 255
+    ∷ address 240 0 0 0 ∷ address 255 255 255 254 ∷ []
+
+-- the ends of the multicast range, and those of its part that is never forwarded
+abbrev pub groups : List ℕ
+groups = address 224 0 0 0 ∷ address 239 255 255 255 ∷ []
+
+abbrev pub local_groups : List ℕ
+local_groups = address 224 0 0 0 ∷ address 224 0 0 255 ∷ []
+
+-- the addresses beside them
+abbrev pub no_groups : List ℕ
+no_groups = address 223 255 255 255 ∷ address 240 0 0 0 ∷ []
+
+abbrev pub no_local_groups : List ℕ
+no_local_groups = address 223 255 255 255 ∷ address 224 0 1 0 ∷ []

@@ -24,6 +24,8 @@ mod read_error;
 mod route;
 mod sink;
 mod store;
+#[cfg(test)]
+mod tests;
 mod vif_record;
 mod worked;
 

@@ -62,6 +62,7 @@ impl Link for MemLink {
 
     ghost faults = { λ l. l.faults };
 
+    /// Moves at most the piece, and does not fail.
     fn get(&mut self, space: &mut [u8]) -> Result<usize, Failed> {
         let bytes = self.next_bytes(space.len());
         let n = bytes.len();
@@ -70,7 +71,16 @@ impl Link for MemLink {
         Ok(n)
     }
 
-    fn put(&mut self, bytes: &[u8]) -> Result<(), Failed> {
+    /// Appends all bytes to those taken, or none where memory ran out.
+    fn put(&mut self, bytes: &[u8]) -> Result<(), Failed>
+        ensures all { OnOk result
+            (Takes (⟦<MemLink as Link>⟧.taken self.old) bytes.now (⟦<MemLink as Link>⟧.taken self.new)) }
+        ensures none { OnErr result (⟦<MemLink as Link>⟧.taken self.new ≡ ⟦<MemLink as Link>⟧.taken self.old) }
+        ensures kept { ⟦<MemLink as Link>⟧.to_come self.new ≡ ⟦<MemLink as Link>⟧.to_come self.old }
+        ensures count { ⟦<MemLink as Link>⟧.faults self.old ≤ ⟦<MemLink as Link>⟧.faults self.new }
+        ensures fault { OnErr result
+            (Rose (⟦<MemLink as Link>⟧.faults self.old) (⟦<MemLink as Link>⟧.faults self.new)) }
+    {
         match self.sent.extend_from_slice(bytes) {
             Ok(()) => Ok(()),
             Err(_) => {

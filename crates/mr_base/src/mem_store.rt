@@ -1,5 +1,5 @@
-ghost use Rattle.std.specs.Prelude.{◌≡◌, ◌≢◌, ◌≤◌, true, false, Some, None, IfSome, IfNone, OnOk, OnErr, AllPairs, [], length};
-ghost use Rattle.mr_base.specs.Outside.{Rose, no_call, HasFile, OthersStay};
+ghost use Rattle.std.specs.Prelude.{◌≡◌, ◌≢◌, ◌≤◌, true, false, Some, None, IfSome, MatchOption, OnOk, OnErr, AllPairs, [], length};
+ghost use Rattle.mr_base.specs.Outside.{Rose, no_call, is_failed, HasFile, AllStay, OthersStay};
 ghost use Rattle.mr_base.specs.MemStores.{bytes_of};
 
 use crate::file_name::FileName;
@@ -50,7 +50,7 @@ impl MemStore {
     /// The bytes of a file, if there is one of this name.
     pub fn bytes(&self, name: &str) -> Option<&[u8]>
         ensures told { IfSome (⟦<MemStore as Store>⟧.told self.now) (λ files.
-            IfSome result (λ bytes. files name.now ≡ Some bytes.now) × IfNone result (files name.now ≡ None)) }
+            MatchOption result (files name.now ≡ None) (λ bytes. files name.now ≡ Some bytes.now)) }
     {
         let files = self.files.as_slice();
         for file in files {
@@ -66,7 +66,7 @@ impl MemStore {
         requires { length name.now ≤ 255 }
         ensures bytes { OnOk result (HasFile (⟦<MemStore as Store>⟧.told self.new) name.now bytes.now) }
         ensures others { OthersStay name.now (⟦<MemStore as Store>⟧.told self.old) (⟦<MemStore as Store>⟧.told self.new) }
-        ensures err { OnErr result (self.new.files.items ≡ self.old.files.items) }
+        ensures none { OnErr result (self.new.files.items ≡ self.old.files.items) }
         ensures faults { self.new.faults ≡ self.old.faults }
     {
         let copy = Vec::from_slice(self.alloc, bytes)?;
@@ -121,7 +121,18 @@ impl Store for MemStore {
         }
     }
 
-    fn write(&mut self, name: &str, bytes: &[u8]) -> Result<(), Failed> {
+    /// Sets the bytes of a file, or changes no file where memory ran out.
+    fn write(&mut self, name: &str, bytes: &[u8]) -> Result<(), Failed>
+        requires { length name.now ≤ 255 }
+        ensures bytes { OnOk result (HasFile (⟦<MemStore as Store>⟧.told self.new) name.now bytes.now) }
+        ensures others { OthersStay name.now (⟦<MemStore as Store>⟧.told self.old) (⟦<MemStore as Store>⟧.told self.new) }
+        ensures none { OnErr result (AllStay (⟦<MemStore as Store>⟧.told self.old) (⟦<MemStore as Store>⟧.told self.new)) }
+        ensures count { ⟦<MemStore as Store>⟧.faults self.old ≤ ⟦<MemStore as Store>⟧.faults self.new }
+        ensures fault { OnErr result
+            (Rose (⟦<MemStore as Store>⟧.faults self.old) (⟦<MemStore as Store>⟧.faults self.new)) }
+        ensures facts { ⟦<MemStore as Store>⟧.last self.new
+            ≡ record { is_read = false; name = name.now; failed = is_failed result } }
+    {
         match self.set(name, bytes) {
             Ok(()) => {
                 self.keep(false, name, false);

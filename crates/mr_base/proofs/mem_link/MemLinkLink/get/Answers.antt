@@ -20,4 +20,4 @@ returns-clause-moved c =
     let link = c.args.self.now in
     let bytes = c.next_bytes-bytes.result.now in
     moved _ link.at link.input.items bytes c.copy_from_slice.new.self (drop (length bytes) c.args.space.now)
-        c.next_bytes-bytes.ensures c.copy_from_slice.ensures.after
+    c.next_bytes-bytes.ensures c.copy_from_slice.ensures.after
