@@ -100,3 +100,15 @@ fn clock_and_gate(rt: HostRuntime) -> Result<(), Fail> {
     passes(&OpenGate);
     Ok(())
 }
+
+/// Takes what threads may share and hand over.
+fn crosses<T: Send + Sync>(_value: &T) {}
+
+#[test]
+fn crosses_threads() {
+    let few: Few<u8, 4> = Few::default();
+    crosses(&few);
+    crosses(&Head::default());
+    crosses(&FileName::new("a"));
+    crosses(&OpenGate);
+}
