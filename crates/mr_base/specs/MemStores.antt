@@ -1,0 +1,13 @@
+-- The map of a store in memory.
+use Rattle.std.specs.Prelude.{ℕ, Bool, nat_eq, Option, Some, None, List, [], ◌∷◌, if◌then◌else◌}
+use Rattle.std.specs.Cmp.Lexicographic.{pointwise}
+use Rattle.std.specs.Global.{Vec}
+
+-- whether two names are the same bytes
+abbrev pub bytes_eq : List ℕ → List ℕ → Bool
+bytes_eq = pointwise nat_eq
+
+-- the bytes of the first file of this name
+abbrev pub bytes_of : List (List ℕ × Vec ℕ) → List ℕ → Option (List ℕ)
+bytes_of [] name = None
+bytes_of (file ∷ files) name = if bytes_eq file.0 name then Some file.1.items else bytes_of files name
