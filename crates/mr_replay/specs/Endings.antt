@@ -1,5 +1,5 @@
 -- How a run may end, and what each status says.
-use Rattle.std.specs.Prelude.{◌≡◌, ℕ, ◌&&◌, Bool, true, false, not, nat_lt, nat_le, if◌then◌else◌, Option, Some, None, Result, Ok, Err, List, [], ◌∷◌, length, bytes_eq, codes, take}
+use Rattle.std.specs.Prelude.{◌≡◌, ℕ, ◌&&◌, Bool, not, nat_lt, nat_le, if◌then◌else◌, Option, Some, None, Ok, List, [], ◌∷◌, length, bytes_eq, codes, take}
 use Rattle.mr_base.specs.Outside.{Files, HasFile}
 use Rattle.mr_model.specs.declared.entry.Entry.{Entry}
 use Rattle.mr_model.specs.Legal.{IsLegal}

@@ -1,8 +1,7 @@
 -- What a scenario that was read keeps: it fits its own limits.
-use Rattle.std.specs.Prelude.{◌≡◌, ◌≤◌, List, [], length, sum_by}
+use Rattle.std.specs.Prelude.{◌≡◌, ◌≤◌, [], length, sum_by}
 use Rattle.std.specs.List.{AllByRecursion}
 use Rattle.mr_model.specs.Legal.{IsDaemon}
-use Rattle.mr_replay.specs.declared.scenario.Phase.{Phase}
 use Rattle.mr_replay.specs.declared.scenario.Scenario.{Scenario}
 
 pub record Fits (s : Scenario) : Type 0 where
