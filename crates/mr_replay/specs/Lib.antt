@@ -7,3 +7,4 @@ pub mod Played
 pub mod Fits
 pub mod Built
 pub mod Endings
+pub mod Answers

@@ -19,32 +19,52 @@ use Rattle.mr_replay.specs.Forms.{number_of, address_of, is_device_name, is_take
 abbrev pub when : {A : Type 0} → Bool → Option A → Option A
 when test further = if test then further else None
 
+-- just one word, and just two
+abbrev pub one_of : List (List ℕ) → Option (List ℕ)
+one_of (a ∷ []) = Some a
+one_of _ = None
+
+abbrev pub two_of : List (List ℕ) → Option (List ℕ × List ℕ)
+two_of (a ∷ b ∷ []) = Some (a, b)
+two_of _ = None
+
 -- `scenario 1`
+abbrev pub header_of : Draft → (List ℕ × List ℕ) → Option Draft
+header_of d w = when (bytes_eq w.0 (codes "scenario") && bytes_eq w.1 (codes "1")) (Some (record d { begun = true }))
+
 abbrev pub header_line : Draft → List (List ℕ) → Option Draft
-header_line d (a ∷ b ∷ []) = when (bytes_eq a (codes "scenario") && bytes_eq b (codes "1")) (Some (record d { begun = true }))
-header_line d _ = None
+header_line d ws = option_and_then (header_of d) (two_of ws)
 
 abbrev pub with_device : Draft → List ℕ → ℕ → Draft
 with_device d name addr = record d { devices = d.devices ++ record { name = name; addr = record { 0 = addr } } ∷ [] }
 
+abbrev pub device_at : Draft → List ℕ → ℕ → Option Draft
+device_at d name addr = when (nat_lt (length d.devices) 64) (Some (with_device d name addr))
+
 -- `device NAME ADDRESS`, among the head lines, at most 64
-abbrev pub device_line : Draft → List (List ℕ) → Option Draft
-device_line d (name ∷ addr ∷ []) =
+abbrev pub device_of_words : Draft → (List ℕ × List ℕ) → Option Draft
+device_of_words d w =
     when (is_none d.current)
-    (when (is_device_name name && not (is_taken d.devices name))
-    (option_and_then (λ a. when (nat_lt (length d.devices) 64) (Some (with_device d name a))) (address_of addr)))
-device_line d _ = None
+    (when (is_device_name w.0 && not (is_taken d.devices w.0))
+    (option_and_then (device_at d w.0) (address_of w.1)))
+
+abbrev pub device_line : Draft → List (List ℕ) → Option Draft
+device_line d ws = option_and_then (device_of_words d) (two_of ws)
 
 -- `daemon admin`, among the head lines, once
-abbrev pub daemon_head : Draft → List (List ℕ) → Option Draft
-daemon_head d (kind ∷ []) =
+abbrev pub daemon_of_kind : Draft → List ℕ → Option Draft
+daemon_of_kind d kind =
     when (bytes_eq kind (codes "admin")) (when (nat_lt (length d.daemons) 1) (Some (record d { daemons = d.daemons ++ Admin ∷ [] })))
-daemon_head d _ = None
+
+abbrev pub daemon_head : Draft → List (List ℕ) → Option Draft
+daemon_head d ws = option_and_then (daemon_of_kind d) (one_of ws)
 
 -- `init`
+abbrev pub script_by_word : List ℕ → Option Script
+script_by_word op = when (bytes_eq op (codes "init")) (Some (Ask Init))
+
 abbrev pub script_of : List (List ℕ) → Option Script
-script_of (op ∷ []) = when (bytes_eq op (codes "init")) (Some (Ask Init))
-script_of _ = None
+script_of ws = option_and_then script_by_word (one_of ws)
 
 abbrev pub with_script : Phase → ScriptLine → Phase
 with_script p l = record p { script = p.script ++ l ∷ [] }
