@@ -1,6 +1,7 @@
 -- What one more entry does to the definitions that go over a history.
-use Rattle.std.proofs.Common.{◌≡◌, ℕ, ◌+◌, Bool, true, false, cond, if◌then◌else◌, List, [], ◌∷◌, ◌++◌, length, take, sum_by, count_by, refl, sym, ap, ◌∙◌, arith, append_assoc, append-nil, add-zero, add_assoc, length-append}
+use Rattle.std.proofs.Common.{◌≡◌, ℕ, ◌+◌, Bool, true, false, cond, if◌then◌else◌, List, [], ◌∷◌, ◌++◌, length, take, take_all, ◌-◌, sum_by, count_by, refl, sym, ap, ◌∙◌, arith, append_assoc, append-nil, add-zero, add_assoc, length-append}
 use Rattle.std.proofs.Math.Seq.{append_snoc}
+use Rattle.std.proofs.lemmas.List.{take-append-le}
 use Rattle.std.proofs.lemmas.List.Sums.{fold_push, sum_by-append, sum_by-cons}
 use Rattle.mr_base.specs.declared.numbers.LaneNo.{LaneNo}
 use Rattle.mr_base.specs.declared.vif_record.VifRecord.{VifRecord}
@@ -8,6 +9,8 @@ use Rattle.mr_model.specs.declared.entry.Entry.{Entry}
 use Rattle.mr_model.specs.declared.entry.Entry.TheVariants.{Settle}
 use Rattle.mr_model.specs.declared.limits.Limits.{Limits}
 use Rattle.mr_model.specs.declared.message.MessageId.{MessageId}
+use Rattle.mr_model.specs.declared.reply.RouteTotals.{RouteTotals}
+use Rattle.mr_model.specs.declared.reply.VifTotals.{VifTotals}
 use Rattle.mr_model.specs.State.{state}
 use Rattle.mr_model.specs.Messages.{Attempt}
 use Rattle.mr_model.specs.Now.{milliseconds, now}
@@ -104,3 +107,57 @@ last_end_push h e =
 
 pub ends_short_push : (lane : LaneNo) (h : List Entry) (e : Entry) → ends_short lane (h ++ e ∷ []) ≡ ends_short lane (e ∷ [])
 ends_short_push lane h e = fold_push _ false h e
+
+without_last : (h : List Entry) (e : Entry) → take (length (h ++ e ∷ []) - 1) (h ++ e ∷ []) ≡ h
+without_last h e =
+    let counted : length (h ++ e ∷ []) ≡ length h + 1 = length-append h (e ∷ []) in
+    let place : length (h ++ e ∷ []) - 1 ≡ length h = omega arith in
+    rw (place, take-append-le (length h) h (e ∷ []) (omega arith)) (take_all (length h) h (omega arith))
+
+pub own_before_slow_push : (lane : LaneNo) (h : List Entry) (e : Entry) → own_before_slow lane (h ++ e ∷ []) ≡ (if ends_short lane (e ∷ []) then last_own lane h else last_own lane (h ++ e ∷ []))
+own_before_slow_push lane h e =
+    ap (λ (b : Bool). if b then last_own lane (take (length (h ++ e ∷ []) - 1) (h ++ e ∷ [])) else last_own lane (h ++ e ∷ [])) (ends_short_push lane h e)
+    ∙ ap (λ (g : List Entry). if ends_short lane (e ∷ []) then last_own lane g else last_own lane (h ++ e ∷ [])) (without_last h e)
+
+-- the sums over the packets of two lists
+pub route_packets_append : (a b : List Met) (n : ℕ) → (route_sums (a ++ b) n).packets ≡ (route_sums a n).packets + (route_sums b n).packets
+route_packets_append a b n = sum_by-append _ a b
+
+pub route_bytes_append : (a b : List Met) (n : ℕ) → (route_sums (a ++ b) n).bytes ≡ (route_sums a n).bytes + (route_sums b n).bytes
+route_bytes_append a b n = sum_by-append _ a b
+
+pub route_wrong_append : (a b : List Met) (n : ℕ) → (route_sums (a ++ b) n).wrong ≡ (route_sums a n).wrong + (route_sums b n).wrong
+route_wrong_append a b n = sum_by-append _ a b
+
+pub vif_packets_in_append : (a b : List Met) (v : VifRecord) → (vif_sums (a ++ b) v).packets_in ≡ (vif_sums a v).packets_in + (vif_sums b v).packets_in
+vif_packets_in_append a b v = sum_by-append _ a b
+
+pub vif_packets_out_append : (a b : List Met) (v : VifRecord) → (vif_sums (a ++ b) v).packets_out ≡ (vif_sums a v).packets_out + (vif_sums b v).packets_out
+vif_packets_out_append a b v = sum_by-append _ a b
+
+pub vif_bytes_in_append : (a b : List Met) (v : VifRecord) → (vif_sums (a ++ b) v).bytes_in ≡ (vif_sums a v).bytes_in + (vif_sums b v).bytes_in
+vif_bytes_in_append a b v = sum_by-append _ a b
+
+pub vif_bytes_out_append : (a b : List Met) (v : VifRecord) → (vif_sums (a ++ b) v).bytes_out ≡ (vif_sums a v).bytes_out + (vif_sums b v).bytes_out
+vif_bytes_out_append a b v = sum_by-append _ a b
+
+pub route_packets_push : (h : List Entry) (e : Entry) (n : ℕ) → (route_counts (h ++ e ∷ []) n).packets ≡ (route_counts h n).packets + (route_sums (met_in h e) n).packets
+route_packets_push h e n = ap (λ (sums : RouteTotals). sums.packets) (route_counts_push h e n) ∙ route_packets_append (met h) (met_in h e) n
+
+pub route_bytes_push : (h : List Entry) (e : Entry) (n : ℕ) → (route_counts (h ++ e ∷ []) n).bytes ≡ (route_counts h n).bytes + (route_sums (met_in h e) n).bytes
+route_bytes_push h e n = ap (λ (sums : RouteTotals). sums.bytes) (route_counts_push h e n) ∙ route_bytes_append (met h) (met_in h e) n
+
+pub route_wrong_push : (h : List Entry) (e : Entry) (n : ℕ) → (route_counts (h ++ e ∷ []) n).wrong ≡ (route_counts h n).wrong + (route_sums (met_in h e) n).wrong
+route_wrong_push h e n = ap (λ (sums : RouteTotals). sums.wrong) (route_counts_push h e n) ∙ route_wrong_append (met h) (met_in h e) n
+
+pub vif_packets_in_push : (h : List Entry) (e : Entry) (v : VifRecord) → (vif_counts (h ++ e ∷ []) v).packets_in ≡ (vif_counts h v).packets_in + (vif_sums (met_in h e) v).packets_in
+vif_packets_in_push h e v = ap (λ (sums : VifTotals). sums.packets_in) (vif_counts_push h e v) ∙ vif_packets_in_append (met h) (met_in h e) v
+
+pub vif_packets_out_push : (h : List Entry) (e : Entry) (v : VifRecord) → (vif_counts (h ++ e ∷ []) v).packets_out ≡ (vif_counts h v).packets_out + (vif_sums (met_in h e) v).packets_out
+vif_packets_out_push h e v = ap (λ (sums : VifTotals). sums.packets_out) (vif_counts_push h e v) ∙ vif_packets_out_append (met h) (met_in h e) v
+
+pub vif_bytes_in_push : (h : List Entry) (e : Entry) (v : VifRecord) → (vif_counts (h ++ e ∷ []) v).bytes_in ≡ (vif_counts h v).bytes_in + (vif_sums (met_in h e) v).bytes_in
+vif_bytes_in_push h e v = ap (λ (sums : VifTotals). sums.bytes_in) (vif_counts_push h e v) ∙ vif_bytes_in_append (met h) (met_in h e) v
+
+pub vif_bytes_out_push : (h : List Entry) (e : Entry) (v : VifRecord) → (vif_counts (h ++ e ∷ []) v).bytes_out ≡ (vif_counts h v).bytes_out + (vif_sums (met_in h e) v).bytes_out
+vif_bytes_out_push h e v = ap (λ (sums : VifTotals). sums.bytes_out) (vif_counts_push h e v) ∙ vif_bytes_out_append (met h) (met_in h e) v

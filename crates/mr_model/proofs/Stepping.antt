@@ -145,5 +145,56 @@ step_owner limits s (Recv d (Some message)) = refl
 step_owner limits s (Slow lane index look flow outcome.Parked) = refl
 step_owner limits s e = refl
 
-pub switches_of : State → Switches
+abbrev pub switches_of : State → Switches
 switches_of s = record { pim = s.pim; asserts = s.asserts }
+
+switches_equal : (s t : State) → t.pim ≡ s.pim → t.asserts ≡ s.asserts → switches_of t ≡ switches_of s
+switches_equal s t p a = rw (p, a) refl
+
+released_switches : (s : State) (rs : List ReleasedId) → switches_of (fold after_released s rs) ≡ switches_of s
+released_switches s rs =
+    let does = released_does s rs in
+    switches_equal s (fold after_released s rs) does.pim does.asserts
+
+with_route_switches : (s : State) (d : DaemonNo) (c : MfcCtl) (parent : Option ℕ) → switches_of (with_route s d c parent) ≡ switches_of s
+with_route_switches s d c parent =
+    let kept = with_route_keeps s d c parent in
+    switches_equal s (with_route s d c parent) kept.pim kept.asserts
+
+pim_switches : (s : State) (on b : Bool) → switches_of (if b then s else record s { pim = on; asserts = on }) ≡ (if b then switches_of s else record { pim = on; asserts = on })
+pim_switches s on true = refl
+pim_switches s on false = refl
+
+called_switches : (limits : Limits) (s : State) (d : DaemonNo) (r : Request) (reply : Reply) (released : List ReleasedId) → switches_of (called limits s d r reply released) ≡ switches_after (switches_of s) (Call d r reply released)
+called_switches limits s d (AddMfc c) Good released =
+    released_switches (granted limits s d (AddMfc c)) released ∙ with_route_switches s d c None
+called_switches limits s d (AddProxy c) Good released =
+    released_switches (granted limits s d (AddProxy c)) released ∙ with_route_switches s d c (Some c.parent)
+called_switches limits s d (Pim n) Good released =
+    released_switches (granted limits s d (Pim n)) released ∙ pim_switches s (truth n) (is_same (truth n) s.pim)
+called_switches limits s d (Assert n) Good released = released_switches (granted limits s d (Assert n)) released
+called_switches limits s d r Good released = released_switches (granted limits s d r) released
+called_switches limits s d r reply released = refl
+
+pub step_switches : (limits : Limits) (s : State) (e : Entry) → switches_of (step limits s e) ≡ switches_after (switches_of s) e
+step_switches limits s (Call d r reply released) = called_switches limits s d r reply released
+step_switches limits s (Recv d None) = refl
+step_switches limits s (Recv d (Some message)) = refl
+step_switches limits s (Slow lane index look flow outcome.Parked) = refl
+step_switches limits s e = refl
+
+called_attempts : (limits : Limits) (s : State) (d : DaemonNo) (r : Request) (released : List ReleasedId) → (called limits s d r Good released).attempts ≡ reverse (flat_map (λ x. attempts_by s.now x.outcome) released) ++ s.attempts
+called_attempts limits s d r released =
+    let t = granted limits s d r in
+    let kept = granted_keeps limits s d r in
+    let does = released_does t released in
+    does.attempts ∙ ap (λ (n : ℕ). reverse (flat_map (λ x. attempts_by n x.outcome) released) ++ t.attempts) kept.now
+    ∙ ap (λ (old : List Attempt). reverse (flat_map (λ x. attempts_by s.now x.outcome) released) ++ old) kept.attempts
+
+pub step_attempts : (limits : Limits) (s : State) (e : Entry) → (step limits s e).attempts ≡ reverse (attempted_by s.now e) ++ s.attempts
+step_attempts limits s (Call d r Good released) = called_attempts limits s d r released
+step_attempts limits s (Recv d None) = refl
+step_attempts limits s (Recv d (Some message)) = refl
+step_attempts limits s (Slow lane index look flow outcome.Parked) = refl
+step_attempts limits s (Slow lane index look flow o) = ap (λ (tried : List Attempt). tried ++ s.attempts) (sym (one_attempt s.now o))
+step_attempts limits s e = refl
