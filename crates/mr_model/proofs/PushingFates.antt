@@ -1,6 +1,7 @@
 -- What one more entry does to a packet's fate, to the unfolded history and to a lively one.
-use Rattle.std.proofs.Common.{◌≡◌, ℕ, ◌+◌, ◌≤◌, ◌<◌, Bool, true, false, not, ◌&&◌, ◌||◌, nat_lt, if◌then◌else◌, Option, Some, None, unwrap_or, List, [], ◌∷◌, ◌++◌, length, take, filter, map, flat_map, refl, sym, ap, ap₂, ◌∙◌, arith, append_assoc, append-nil, add-zero, length-append}
+use Rattle.std.proofs.Common.{◌≡◌, ℕ, ◌+◌, ◌≤◌, ◌<◌, Bool, true, false, not, ◌&&◌, ◌||◌, nat_lt, ◌==◌, cond, if◌then◌else◌, Option, Some, None, unwrap_or, List, [], ◌∷◌, ◌++◌, length, take, filter, map, flat_map, refl, sym, ap, ap₂, ◌∙◌, arith, append_assoc, append-nil, add-zero, length-append}
 use Rattle.std.proofs.Math.Seq.{append_snoc}
+use Rattle.std.proofs.lemmas.Bool.{ne_eqb}
 use Rattle.std.proofs.lemmas.Grind.{flat_map-append}
 use Rattle.mr_base.specs.declared.numbers.LaneNo.{LaneNo}
 use Rattle.mr_model.specs.declared.ending.Fate.{Fate}
@@ -13,6 +14,7 @@ use Rattle.mr_model.specs.declared.step.Step.{Step}
 use Rattle.mr_model.specs.declared.step.Step.TheVariants.{Fast, Kept}
 use Rattle.mr_model.specs.Fate.{names, loses, fate_in, fate_from, fate}
 use Rattle.mr_model.specs.Laws.{fate_after, is_settle, is_of_no_lane}
+use Rattle.mr_model.specs.Legal.{RecordsAgree, Agrees, LegalFrom, IsLegal}
 use Rattle.mr_model.specs.Lively.{slow_follows, is_last_in_phase, is_lively_at, lively_from}
 use Rattle.mr_model.specs.Past.{is_of_lane}
 use Rattle.mr_model.specs.Unfolded.{fast_in, fast_at, unfolded_from, unfolded}
@@ -118,3 +120,28 @@ lively_from_push limits g (x ∷ h) e p =
 
 pub lively_push : (limits : Limits) (h : List Entry) (e : Entry) → is_of_no_lane e ≡ true → lively_from limits [] (h ++ e ∷ []) ≡ lively_from limits [] h
 lively_push limits h e p = lively_from_push limits [] h e p
+
+-- no record of a legal history looks beyond it
+fast_none : (limits : Limits) (g : List Entry) (n index least : ℕ) (rs : List FastRecord) → length g < n → RecordsAgree limits g index least rs → filter (λ r. r.look == n) rs ≡ []
+fast_none limits g n index least [] long a = refl
+fast_none limits g n index least (r ∷ rs) long a =
+    let differs : (r.look == n) ≡ false = ne_eqb r.look n (λ same. omega (arith, a.1)) in
+    ap (λ (b : Bool). cond b (r ∷ filter (λ x. x.look == n) rs) (filter (λ x. x.look == n) rs)) differs
+    ∙ fast_none limits g n r.index r.look rs long a.4
+
+fast_in_within : (limits : Limits) (g : List Entry) (n : ℕ) (e : Entry) → length g < n → Agrees limits g e → fast_in n e ≡ []
+fast_in_within limits g n (Settle lane records) long a =
+    ap (λ (rs : List FastRecord). map (λ r. Fast lane r) rs) (fast_none limits g n _ _ records long a.all)
+fast_in_within limits g n e long a = refl
+
+fast_at_within : (limits : Limits) (g h : List Entry) (n : ℕ) → length g + length h ≤ n → LegalFrom limits g h → fast_at n h ≡ []
+fast_at_within limits g [] n long l = refl
+fast_at_within limits g (e ∷ h) n long l =
+    let more : length (g ++ e ∷ []) ≡ length g + 1 = length-append g (e ∷ []) in
+    ap₂ (λ (a b : List Step). a ++ b) (fast_in_within limits g n e (omega arith) l.0) (fast_at_within limits (g ++ e ∷ []) h n (omega arith) l.1)
+
+-- behind a legal history an entry that is no Settle stands last, one step more
+pub unfolded_legal_push : (limits : Limits) (h : List Entry) (e : Entry) → IsLegal limits h → is_settle e ≡ false → unfolded (h ++ e ∷ []) ≡ unfolded h ++ Kept e ∷ []
+unfolded_legal_push limits h e l p =
+    unfolded_push h e p
+    ∙ ap (λ (steps : List Step). unfolded h ++ Kept e ∷ steps) (fast_at_within limits [] h (length h + 1) (omega arith) l)

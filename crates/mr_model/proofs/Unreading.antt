@@ -79,12 +79,6 @@ taking_unread limits g d m a = at_least (state limits g).unread refl
     at_least [] p = let none = nothing_given (state limits g) d p in let gives = a.gives in cc
     at_least (x ∷ ms) p = omega arith
 
--- the reports of the state after h, against what was pushed behind the last good MRT_DONE
-pub record ReadsRight (limits : Limits) (h : List Entry) : Type 0 where
-  pub split : up_to_finish h ++ behind_finish h ≡ h
-  pub within : count_by is_taking (behind_finish h) ≤ length (pushed limits (up_to_finish h) (behind_finish h))
-  pub reads : (state limits h).unread ≡ unread limits h
-
 behind_push : (h : List Entry) (e : Entry) → behind_finish (h ++ e ∷ []) ≡ (if is_finish e then [] else behind_finish h ++ e ∷ [])
 behind_push h e = fold_push _ [] h e
 
@@ -108,17 +102,37 @@ up_to_more h e p =
     ∙ ap (λ (n : ℕ). take n (h ++ e ∷ [])) place
     ∙ take-append-le (length h - length (behind_finish h)) h (e ∷ []) (omega arith)
 
+splits_push : (h : List Entry) (e : Entry) → up_to_finish h ++ behind_finish h ≡ h → up_to_finish (h ++ e ∷ []) ++ behind_finish (h ++ e ∷ []) ≡ h ++ e ∷ []
+splits_push h e s = by (cases_Bool (is_finish e))
+  where
+    by : (is_finish e ≡ true) ⊎ (is_finish e ≡ false) → up_to_finish (h ++ e ∷ []) ++ behind_finish (h ++ e ∷ []) ≡ h ++ e ∷ []
+    by (inl p) = ap₂ (λ (x y : List Entry). x ++ y) (up_to_finished h e p) (behind_finished h e p) ∙ append-nil (h ++ e ∷ [])
+    by (inr p) =
+        ap₂ (λ (x y : List Entry). x ++ y) (up_to_more h e p) (behind_more h e p)
+        ∙ sym (append_assoc (up_to_finish h) (behind_finish h) (e ∷ [])) ∙ ap (λ (k : List Entry). k ++ e ∷ []) s
+
+splits_from : (g h : List Entry) → up_to_finish g ++ behind_finish g ≡ g → up_to_finish (g ++ h) ++ behind_finish (g ++ h) ≡ g ++ h
+splits_from g [] s = rw append-nil s
+splits_from g (e ∷ h) s = rw append_snoc at (splits_from (g ++ e ∷ []) h (splits_push g e s))
+
+-- The entries up to the last good MRT_DONE and those behind it are all.
+pub finish_splits : (h : List Entry) → up_to_finish h ++ behind_finish h ≡ h
+finish_splits h = splits_from [] h refl
+
+-- the reports of the state after h, against what was pushed behind the last good MRT_DONE
+pub record ReadsRight (limits : Limits) (h : List Entry) : Type 0 where
+  pub within : count_by is_taking (behind_finish h) ≤ length (pushed limits (up_to_finish h) (behind_finish h))
+  pub reads : (state limits h).unread ≡ unread limits h
+
 -- the same, where the history up to the last good MRT_DONE is u, and b stands behind it
 record Parts (limits : Limits) (h u b : List Entry) : Type 0 where
   pub up_to : up_to_finish h ≡ u
   pub behind : behind_finish h ≡ b
-  pub split : u ++ b ≡ h
   pub within : count_by is_taking b ≤ length (pushed limits u b)
   pub reads : (state limits h).unread ≡ drop (count_by is_taking b) (pushed limits u b)
 
 right_of_parts : (limits : Limits) (h u b : List Entry) → Parts limits h u b → ReadsRight limits h
 right_of_parts limits h u b p = record {
-  split = ap₂ (λ (x y : List Entry). x ++ y) p.up_to p.behind ∙ p.split;
   within = subst₂ (λ (x y : List Entry). count_by is_taking y ≤ length (pushed limits x y)) (sym p.up_to) (sym p.behind) p.within;
   reads = p.reads ∙ sym (ap₂ (λ (x y : List Entry). drop (count_by is_taking y) (pushed limits x y)) p.up_to p.behind);
 }
@@ -127,21 +141,16 @@ finish_parts : (limits : Limits) (h : List Entry) (e : Entry) → is_finish e �
 finish_parts limits h e p a = record {
   up_to = up_to_finished h e p;
   behind = behind_finished h e p;
-  split = append-nil (h ++ e ∷ []);
   within = omega arith;
   reads = ap (λ (s : State). s.unread) (state_push limits h e) ∙ finish_unread limits h e p a;
 }
 
 -- what is pushed up to one more entry, which is no MRT_DONE
-pushed_more : (limits : Limits) (h : List Entry) (e : Entry) → ReadsRight limits h → pushed limits (up_to_finish h) (behind_finish h ++ e ∷ []) ≡ pushed limits (up_to_finish h) (behind_finish h) ++ pushed_by limits (state limits h) e
-pushed_more limits h e r =
+pushed_more : (limits : Limits) (h : List Entry) (e : Entry) → pushed limits (up_to_finish h) (behind_finish h ++ e ∷ []) ≡ pushed limits (up_to_finish h) (behind_finish h) ++ pushed_by limits (state limits h) e
+pushed_more limits h e =
     let u = up_to_finish h in
     let b = behind_finish h in
-    pushed_push limits u b e ∙ ap (λ (k : List Entry). pushed limits u b ++ pushed_by limits (state limits k) e) r.split
-
-split_more : (limits : Limits) (h : List Entry) (e : Entry) → ReadsRight limits h → up_to_finish h ++ (behind_finish h ++ e ∷ []) ≡ h ++ e ∷ []
-split_more limits h e r =
-    sym (append_assoc (up_to_finish h) (behind_finish h) (e ∷ [])) ∙ ap (λ (k : List Entry). k ++ e ∷ []) r.split
+    pushed_push limits u b e ∙ ap (λ (k : List Entry). pushed limits u b ++ pushed_by limits (state limits k) e) (finish_splits h)
 
 taken_more : (b : List Entry) (e : Entry) → count_by is_taking (b ++ e ∷ []) ≡ count_by is_taking b + cond (is_taking e) 1 0
 taken_more b e = fold_push (λ n x. n + cond (is_taking x) 1 0) 0 b e
@@ -153,7 +162,7 @@ pushing_parts limits h e r p q =
     let k = count_by is_taking b in
     let old = pushed limits u b in
     let new = pushed_by limits (state limits h) e in
-    let more : pushed limits u (b ++ e ∷ []) ≡ old ++ new = pushed_more limits h e r in
+    let more : pushed limits u (b ++ e ∷ []) ≡ old ++ new = pushed_more limits h e in
     let taken : count_by is_taking (b ++ e ∷ []) ≡ k =
         taken_more b e ∙ ap (λ (t : Bool). k + cond t 1 0) q ∙ add-zero k in
     let long : length (old ++ new) ≡ length old + length new = length-append old new in
@@ -165,7 +174,6 @@ pushing_parts limits h e r p q =
     record {
       up_to = up_to_more h e p;
       behind = behind_more h e p;
-      split = split_more limits h e r;
       within = subst₂ (λ (n : ℕ) (ms : List MessageId). n ≤ length ms) (sym taken) (sym more) within_all;
       reads = reads ∙ sym (ap₂ (λ (n : ℕ) (ms : List MessageId). drop n ms) taken more);
     }
@@ -177,7 +185,7 @@ taking_parts limits h d m r a =
     let b = behind_finish h in
     let k = count_by is_taking b in
     let old = pushed limits u b in
-    let more : pushed limits u (b ++ e ∷ []) ≡ old = pushed_more limits h e r ∙ append-nil old in
+    let more : pushed limits u (b ++ e ∷ []) ≡ old = pushed_more limits h e ∙ append-nil old in
     let taken : count_by is_taking (b ++ e ∷ []) ≡ k + 1 = taken_more b e in
     let some : 1 ≤ length (drop k old) = subst (λ (ms : List MessageId). 1 ≤ length ms) r.reads (taking_unread limits h d m a) in
     let left : length (drop k old) ≡ length old - k = length-drop k old in
@@ -187,7 +195,6 @@ taking_parts limits h d m r a =
     record {
       up_to = up_to_more h e refl;
       behind = behind_more h e refl;
-      split = split_more limits h e r;
       within = subst₂ (λ (n : ℕ) (ms : List MessageId). n ≤ length ms) (sym taken) (sym more) within;
       reads = reads ∙ sym (ap₂ (λ (n : ℕ) (ms : List MessageId). drop n ms) taken more);
     }
@@ -209,7 +216,7 @@ right_from limits g (e ∷ h) r l =
     rw append_snoc at (right_from limits (g ++ e ∷ []) h (right_push limits g e r l.0) l.1)
 
 reads_right : (limits : Limits) (h : List Entry) → IsLegal limits h → ReadsRight limits h
-reads_right limits h l = right_from limits [] h (record { split = refl; within = omega arith; reads = refl }) l
+reads_right limits h l = right_from limits [] h (record { within = omega arith; reads = refl }) l
 
 pub unread_agrees : (limits : Limits) (h : List Entry) → IsLegal limits h → (state limits h).unread ≡ unread limits h
 unread_agrees limits h l = (reads_right limits h l).reads
@@ -217,6 +224,3 @@ unread_agrees limits h l = (reads_right limits h l).reads
 -- A legal history takes no more than was pushed.
 pub taken_within : (limits : Limits) (h : List Entry) → IsLegal limits h → count_by is_taking (behind_finish h) ≤ length (pushed limits (up_to_finish h) (behind_finish h))
 taken_within limits h l = (reads_right limits h l).within
-
-pub finish_splits : (limits : Limits) (h : List Entry) → IsLegal limits h → up_to_finish h ++ behind_finish h ≡ h
-finish_splits limits h l = (reads_right limits h l).split

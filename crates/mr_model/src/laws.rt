@@ -1,6 +1,6 @@
 //! Laws of the definitions in `specs/`: what one more entry does, and that definitions agree.
 
-ghost use Rattle.std.specs.Prelude.{◌≡◌, ℕ, ◌+◌, true, false, if◌then◌else◌, List, [], ◌∷◌, ◌++◌, length, reverse};
+ghost use Rattle.std.specs.Prelude.{◌≡◌, ℕ, ◌+◌, ◌≤◌, true, false, if◌then◌else◌, List, [], ◌∷◌, ◌++◌, length, reverse, count_by};
 ghost use Rattle.mr_base.specs.declared.numbers.LaneNo.{LaneNo};
 ghost use Rattle.mr_base.specs.declared.vif_record.VifRecord.{VifRecord};
 ghost use Rattle.mr_model.specs.declared.entry.Entry.{Entry};
@@ -20,7 +20,7 @@ ghost use Rattle.mr_model.specs.Past.{is_control, is_end, is_of_lane, packets_in
 ghost use Rattle.mr_model.specs.State.{step, state};
 ghost use Rattle.mr_model.specs.Switches.{switches_after, switches, pim, asserts};
 ghost use Rattle.mr_model.specs.Unfolded.{fast_in, fast_at, unfolded};
-ghost use Rattle.mr_model.specs.Unread.{pushed_by, pushed, unread};
+ghost use Rattle.mr_model.specs.Unread.{pushed_by, pushed, behind_finish, up_to_finish, is_taking, unread};
 
 /// One more entry takes one step from the state before it, and the state counts the entries.
 pub fn state_push()
@@ -124,6 +124,7 @@ pub fn fate_push()
 pub fn unfolded_push()
     ensures fast { (n : ℕ) (h : List Entry) (e : Entry) → fast_at n (h ++ e ∷ []) ≡ fast_at n h ++ fast_in n e }
     ensures kept { (h : List Entry) (e : Entry) → is_settle e ≡ false → unfolded (h ++ e ∷ []) ≡ unfolded h ++ Kept e ∷ fast_at (length h + 1) h }
+    ensures legal { (limits : Limits) (h : List Entry) (e : Entry) → IsLegal limits h → is_settle e ≡ false → unfolded (h ++ e ∷ []) ≡ unfolded h ++ Kept e ∷ [] }
 {
 }
 
@@ -144,8 +145,10 @@ pub fn state_agrees()
 {
 }
 
-/// In a legal history the unread reports of the state are those pushed since the last good MRT_DONE that no receive took.
+/// In a legal history the unread reports of the state are those pushed since the last good MRT_DONE that no receive took; receives take no more than was pushed.
 pub fn unread_agrees()
-    ensures { (limits : Limits) (h : List Entry) → IsLegal limits h → (state limits h).unread ≡ unread limits h }
+    ensures unread { (limits : Limits) (h : List Entry) → IsLegal limits h → (state limits h).unread ≡ unread limits h }
+    ensures within { (limits : Limits) (h : List Entry) → IsLegal limits h → count_by is_taking (behind_finish h) ≤ length (pushed limits (up_to_finish h) (behind_finish h)) }
+    ensures splits { (h : List Entry) → up_to_finish h ++ behind_finish h ≡ h }
 {
 }

@@ -6,3 +6,6 @@ returns-clause-fast c = lemma.fast_at_push
 
 pub returns-clause-kept : goal.returns-clause-kept
 returns-clause-kept c = lemma.unfolded_push
+
+pub returns-clause-legal : goal.returns-clause-legal
+returns-clause-legal c = lemma.unfolded_legal_push
