@@ -1,5 +1,5 @@
 -- The parts of the state are what the definitions that go over a history say.
-use Rattle.std.proofs.Common.{◌≡◌, ℕ, ◌+◌, Option, List, [], ◌∷◌, ◌++◌, reverse, fold, refl, sym, ap, ◌∙◌, append_assoc, append-nil}
+use Rattle.std.proofs.Common.{◌≡◌, ℕ, ◌+◌, Option, List, [], ◌∷◌, ◌++◌, reverse, fold, refl, ap, ◌∙◌, append_assoc, append-nil}
 use Rattle.std.proofs.lemmas.List.{reverse-append}
 use Rattle.mr_base.specs.declared.numbers.DaemonNo.{DaemonNo}
 use Rattle.mr_model.specs.declared.entry.Entry.{Entry}
@@ -8,7 +8,7 @@ use Rattle.mr_model.specs.Messages.{Attempt, last_attempt}
 use Rattle.mr_model.specs.Now.{milliseconds, now}
 use Rattle.mr_model.specs.Attempt.{attempted_by, attempts_from, attempt}
 use Rattle.mr_model.specs.Owner.{owner_after, owner}
-use Rattle.mr_model.specs.Switches.{Switches, switches_after, switches, pim, asserts}
+use Rattle.mr_model.specs.Switches.{Switches, switches_after, pim, asserts}
 use Rattle.mr_model.specs.State.{State, first_state, step, state}
 use Rattle.mr_model.proofs.Stepping.{step_owner, switches_of, step_switches, step_now, step_attempts}
 
@@ -45,7 +45,7 @@ attempts_agree_from limits s (e ∷ h) =
     let first = attempted_by s.now e in
     let more = attempts_from (s.now + milliseconds e) h in
     let joined : reverse more ++ (reverse first ++ s.attempts) ≡ reverse (first ++ more) ++ s.attempts =
-        rw (reverse-append first more, append_assoc (reverse more) (reverse first) s.attempts) refl in
+    rw (reverse-append first more, append_assoc (reverse more) (reverse first) s.attempts) refl in
     attempts_agree_from limits (step limits s e) h
     ∙ ap (λ (n : ℕ). reverse (attempts_from n h) ++ (step limits s e).attempts) (step_now limits s e)
     ∙ ap (λ (old : List Attempt). reverse more ++ old) (step_attempts limits s e)

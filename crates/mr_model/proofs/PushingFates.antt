@@ -1,13 +1,13 @@
 -- What one more entry does to a packet's fate, to the unfolded history and to a lively one.
-use Rattle.std.proofs.Common.{◌≡◌, ℕ, ◌+◌, ◌≤◌, ◌<◌, Bool, true, false, not, ◌&&◌, ◌||◌, nat_lt, ◌==◌, cond, if◌then◌else◌, Option, Some, None, unwrap_or, List, [], ◌∷◌, ◌++◌, length, take, filter, map, flat_map, refl, sym, ap, ap₂, ◌∙◌, arith, append_assoc, append-nil, add-zero, length-append}
+use Rattle.std.proofs.Common.{◌≡◌, ℕ, ◌+◌, ◌≤◌, ◌<◌, Bool, true, false, not, ◌&&◌, ◌||◌, nat_lt, ◌==◌, cond, if◌then◌else◌, Option, Some, None, unwrap_or, List, [], ◌∷◌, ◌++◌, length, filter, map, refl, sym, ap, ap₂, ◌∙◌, arith, append_assoc, append-nil, length-append}
 use Rattle.std.proofs.Math.Seq.{append_snoc}
 use Rattle.std.proofs.lemmas.Bool.{ne_eqb}
 use Rattle.std.proofs.lemmas.Grind.{flat_map-append}
 use Rattle.mr_base.specs.declared.numbers.LaneNo.{LaneNo}
 use Rattle.mr_model.specs.declared.ending.Fate.{Fate}
-use Rattle.mr_model.specs.declared.ending.Fate.TheVariants.{Released, Expired, Flushed, Waiting}
+use Rattle.mr_model.specs.declared.ending.Fate.TheVariants.{Released, Expired, Flushed}
 use Rattle.mr_model.specs.declared.entry.Entry.{Entry}
-use Rattle.mr_model.specs.declared.entry.Entry.TheVariants.{Call, Slow, Settle, Tick, Recv, EndPhase}
+use Rattle.mr_model.specs.declared.entry.Entry.TheVariants.{Call, Slow, Settle, Tick, EndPhase}
 use Rattle.mr_model.specs.declared.entry.FastRecord.{FastRecord}
 use Rattle.mr_model.specs.declared.limits.Limits.{Limits}
 use Rattle.mr_model.specs.declared.step.Step.{Step}
@@ -41,8 +41,8 @@ fate_from_push limits g (x ∷ h) e lane index =
     let before = fate_in limits g x lane index in
     let rest = fate_from limits (g ++ x ∷ []) h lane index in
     let more : fate_from limits (g ++ x ∷ []) (h ++ e ∷ []) lane index ≡ fate_after rest (fate_in limits (g ++ x ∷ h) e lane index) =
-        fate_from_push limits (g ++ x ∷ []) h e lane index
-        ∙ ap (λ (k : List Entry). fate_after rest (fate_in limits k e lane index)) (append_snoc g x h) in
+    fate_from_push limits (g ++ x ∷ []) h e lane index
+    ∙ ap (λ (k : List Entry). fate_after rest (fate_in limits k e lane index)) (append_snoc g x h) in
     ap (λ (f : Fate). unwrap_or before f) more ∙ sym (fate_stays limits g x lane index rest (fate_in limits (g ++ x ∷ h) e lane index))
 
 pub fate_push : (limits : Limits) (h : List Entry) (e : Entry) (lane : LaneNo) (index : ℕ) → fate limits (h ++ e ∷ []) lane index ≡ fate_after (fate limits h lane index) (fate_in limits h e lane index)
@@ -69,7 +69,7 @@ unfolded_from_push h e p n (x ∷ es) =
     let place : n + 1 + length es + 1 ≡ n + length (x ∷ es) + 1 = omega arith in
     let last = fast_at (n + length (x ∷ es) + 1) h in
     let more : unfolded_from (h ++ e ∷ []) (n + 1) (es ++ e ∷ []) ≡ unfolded_from h (n + 1) es ++ Kept e ∷ last =
-        rw (← place) (unfolded_from_push h e p (n + 1) es) in
+    rw (← place) (unfolded_from_push h e p (n + 1) es) in
     ap₂ (λ (a b : List Step). a ++ Kept x ∷ b) (fast_at_same h e p n) more
     ∙ sym (append_assoc (fast_at n h) (Kept x ∷ unfolded_from h (n + 1) es) (Kept e ∷ last))
 

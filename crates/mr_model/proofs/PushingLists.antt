@@ -1,22 +1,19 @@
 -- What one more entry does to the definitions that go over a history.
-use Rattle.std.proofs.Common.{◌≡◌, ℕ, ◌+◌, Bool, true, false, cond, if◌then◌else◌, List, [], ◌∷◌, ◌++◌, length, take, take_all, ◌-◌, sum_by, count_by, refl, sym, ap, ◌∙◌, arith, append_assoc, append-nil, add-zero, add_assoc, length-append}
+use Rattle.std.proofs.Common.{◌≡◌, ℕ, ◌+◌, Bool, false, cond, if◌then◌else◌, List, [], ◌∷◌, ◌++◌, length, take, take_all, ◌-◌, refl, sym, ap, ◌∙◌, arith, append_assoc, append-nil, add-zero, length-append}
 use Rattle.std.proofs.Math.Seq.{append_snoc}
 use Rattle.std.proofs.lemmas.List.{take-append-le}
 use Rattle.std.proofs.lemmas.List.Sums.{fold_push, sum_by-append, sum_by-cons}
 use Rattle.mr_base.specs.declared.numbers.LaneNo.{LaneNo}
 use Rattle.mr_base.specs.declared.vif_record.VifRecord.{VifRecord}
 use Rattle.mr_model.specs.declared.entry.Entry.{Entry}
-use Rattle.mr_model.specs.declared.entry.Entry.TheVariants.{Settle}
 use Rattle.mr_model.specs.declared.limits.Limits.{Limits}
-use Rattle.mr_model.specs.declared.message.MessageId.{MessageId}
 use Rattle.mr_model.specs.declared.reply.RouteTotals.{RouteTotals}
 use Rattle.mr_model.specs.declared.reply.VifTotals.{VifTotals}
 use Rattle.mr_model.specs.State.{state}
-use Rattle.mr_model.specs.Messages.{Attempt}
 use Rattle.mr_model.specs.Now.{milliseconds, now}
 use Rattle.mr_model.specs.Owner.{owner_after, owner}
 use Rattle.mr_model.specs.Switches.{switches_after, switches}
-use Rattle.mr_model.specs.Changes.{GoodCall, change_in, changes_from, changes}
+use Rattle.mr_model.specs.Changes.{change_in, changes_from, changes}
 use Rattle.mr_model.specs.Counts.{Met, met_in, met_from, met, route_sums, route_counts, vif_sums, vif_counts}
 use Rattle.mr_model.specs.Attempt.{attempted_by, attempts_from}
 use Rattle.mr_model.specs.Unread.{pushed_by, pushed}

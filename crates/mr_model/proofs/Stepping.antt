@@ -1,14 +1,11 @@
 -- What one step of the state does to each of its parts.
-use Rattle.std.proofs.Common.{◌≡◌, ℕ, ◌+◌, Bool, true, false, if◌then◌else◌, List, [], ◌∷◌, ◌++◌, length, reverse, fold, flat_map, refl, ap, sym, ◌∙◌, append_assoc, append-nil, add-zero, Option, Some, None}
+use Rattle.std.proofs.Common.{◌≡◌, ℕ, ◌+◌, Bool, true, false, if◌then◌else◌, List, [], ◌∷◌, ◌++◌, reverse, fold, flat_map, refl, ap, sym, ◌∙◌, append_assoc, append-nil, add-zero, Option, Some, None}
 use Rattle.std.proofs.lemmas.List.{reverse-append}
 use Rattle.mr_base.specs.declared.numbers.DaemonNo.{DaemonNo}
-use Rattle.mr_base.specs.declared.numbers.LaneNo.{LaneNo}
 use Rattle.mr_model.specs.declared.entry.Entry.{Entry}
-use Rattle.mr_model.specs.declared.entry.Entry.TheVariants.{Call, Slow, Settle, Tick, Recv, EndPhase}
+use Rattle.mr_model.specs.declared.entry.Entry.TheVariants.{Call, Slow, Tick, Recv}
 use Rattle.mr_model.specs.declared.entry.ReleasedId.{ReleasedId}
-use Rattle.mr_model.specs.declared.flow.Flow.{Flow}
 use Rattle.mr_model.specs.declared.limits.Limits.{Limits}
-use Rattle.mr_model.specs.declared.message.MessageId.{MessageId}
 use Rattle.mr_model.specs.declared.outcome.Outcome.{Outcome}
 use Rattle.mr_model.specs.declared.outcome.Outcome.TheVariants as outcome
 use Rattle.mr_model.specs.declared.outcome.Report.TheVariants as report
@@ -16,13 +13,13 @@ use Rattle.mr_model.specs.declared.reply.Reply.{Reply}
 use Rattle.mr_model.specs.declared.reply.Reply.TheVariants.{Good}
 use Rattle.mr_model.specs.declared.request.MfcCtl.{MfcCtl}
 use Rattle.mr_model.specs.declared.request.Request.{Request}
-use Rattle.mr_model.specs.declared.request.Request.TheVariants.{Init, Finish, AddMfc, AddProxy, Pim, Assert}
+use Rattle.mr_model.specs.declared.request.Request.TheVariants.{AddMfc, AddProxy, Pim, Assert}
 use Rattle.mr_model.specs.Messages.{Attempt, attempts_by, told_by}
 use Rattle.mr_model.specs.Now.{milliseconds}
 use Rattle.mr_model.specs.Attempt.{attempted_by}
 use Rattle.mr_model.specs.Owner.{owner_after}
 use Rattle.mr_model.specs.Switches.{Switches, switches_after}
-use Rattle.mr_model.specs.State.{State, step, called, granted, with_route, reported, after_released, truth, is_same}
+use Rattle.mr_model.specs.State.{State, step, called, granted, with_route, after_released, truth, is_same}
 
 -- a later state with the count, the moment and the attempts of s
 pub record Keeps (s t : State) : Type 0 where

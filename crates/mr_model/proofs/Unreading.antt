@@ -1,5 +1,5 @@
 -- In a legal history the unread reports are those that were pushed and not taken.
-use Rattle.std.proofs.Common.{◌≡◌, ℕ, ◌+◌, ◌-◌, ◌≤◌, ◌<◌, Bool, true, false, if◌then◌else◌, cond, Option, Some, None, List, [], ◌∷◌, ◌++◌, length, take, drop, count_by, flat_map, fold, refl, sym, ap, ap₂, ◌∙◌, arith, append_assoc, append-nil, length-append, length-drop, take_all, add-zero, subst, subst₂, ◌⊎◌, inl, inr}
+use Rattle.std.proofs.Common.{◌≡◌, ℕ, ◌+◌, ◌-◌, ◌≤◌, Bool, true, false, if◌then◌else◌, cond, Option, Some, None, List, [], ◌∷◌, ◌++◌, length, take, drop, count_by, refl, sym, ap, ap₂, ◌∙◌, arith, append_assoc, append-nil, length-append, length-drop, take_all, add-zero, subst, subst₂, ◌⊎◌, inl, inr}
 use Rattle.std.proofs.lemmas.Bool.{cases_Bool}
 use Rattle.std.proofs.Math.Seq.{append_snoc}
 use Rattle.std.proofs.lemmas.List.{take-append-le, drop-append-le, drop-drop}
@@ -7,18 +7,16 @@ use Rattle.std.proofs.lemmas.List.Sums.{fold_push}
 use Rattle.mr_base.specs.declared.errno.Errno.{Errno}
 use Rattle.mr_base.specs.declared.numbers.DaemonNo.{DaemonNo}
 use Rattle.mr_model.specs.declared.entry.Entry.{Entry}
-use Rattle.mr_model.specs.declared.entry.Entry.TheVariants.{Call, Slow, Settle, Tick, Recv, EndPhase}
+use Rattle.mr_model.specs.declared.entry.Entry.TheVariants.{Call, Slow, Recv}
 use Rattle.mr_model.specs.declared.entry.ReleasedId.{ReleasedId}
 use Rattle.mr_model.specs.declared.limits.Limits.{Limits}
 use Rattle.mr_model.specs.declared.message.MessageId.{MessageId}
 use Rattle.mr_model.specs.declared.outcome.Outcome.TheVariants as outcome
-use Rattle.mr_model.specs.declared.reply.Reply.{Reply}
 use Rattle.mr_model.specs.declared.reply.Reply.TheVariants.{Good}
 use Rattle.mr_model.specs.declared.request.Request.{Request}
 use Rattle.mr_model.specs.declared.request.Request.TheVariants.{Finish, AddMfc, AddProxy, Pim}
 use Rattle.mr_model.specs.Answer.{if_good, error_of}
 use Rattle.mr_model.specs.Legal.{Agrees, LegalFrom, IsLegal, front, message_for}
-use Rattle.mr_model.specs.Messages.{told_by}
 use Rattle.mr_model.specs.State.{State, is_owner, step, called, granted, state}
 use Rattle.mr_model.specs.Unread.{pushed_by, pushed, is_finish, behind_finish, up_to_finish, is_taking, unread}
 use Rattle.mr_model.proofs.Stepping.{released_does, with_route_keeps}
@@ -164,12 +162,12 @@ pushing_parts limits h e r p q =
     let new = pushed_by limits (state limits h) e in
     let more : pushed limits u (b ++ e ∷ []) ≡ old ++ new = pushed_more limits h e in
     let taken : count_by is_taking (b ++ e ∷ []) ≡ k =
-        taken_more b e ∙ ap (λ (t : Bool). k + cond t 1 0) q ∙ add-zero k in
+    taken_more b e ∙ ap (λ (t : Bool). k + cond t 1 0) q ∙ add-zero k in
     let long : length (old ++ new) ≡ length old + length new = length-append old new in
     let within : k ≤ length old = r.within in
     let reads : (state limits (h ++ e ∷ [])).unread ≡ drop k (old ++ new) =
-        ap (λ (s : State). s.unread) (state_push limits h e) ∙ step_pushes limits (state limits h) e p q
-        ∙ ap (λ (ms : List MessageId). ms ++ new) r.reads ∙ sym (drop-append-le k old new within) in
+    ap (λ (s : State). s.unread) (state_push limits h e) ∙ step_pushes limits (state limits h) e p q
+    ∙ ap (λ (ms : List MessageId). ms ++ new) r.reads ∙ sym (drop-append-le k old new within) in
     let within_all : k ≤ length (old ++ new) = omega arith in
     record {
       up_to = up_to_more h e p;
@@ -191,7 +189,7 @@ taking_parts limits h d m r a =
     let left : length (drop k old) ≡ length old - k = length-drop k old in
     let within : k + 1 ≤ length old = omega arith in
     let reads : (state limits (h ++ e ∷ [])).unread ≡ drop (k + 1) old =
-        ap (λ (s : State). s.unread) (state_push limits h e) ∙ ap (λ (ms : List MessageId). drop 1 ms) r.reads ∙ drop-drop 1 k old in
+    ap (λ (s : State). s.unread) (state_push limits h e) ∙ ap (λ (ms : List MessageId). drop 1 ms) r.reads ∙ drop-drop 1 k old in
     record {
       up_to = up_to_more h e refl;
       behind = behind_more h e refl;

@@ -1,5 +1,4 @@
-use Rattle.mr_model.specs.declared.entry.Entry.{Entry}
-use Rattle.std.specs.Prelude.{List, [], ◌∷◌}
+use Rattle.std.specs.Prelude.{[], ◌∷◌}
 use Rattle.mr_model.proofs.Pushing as lemma
 use Rattle.mr_model.proofs.laws.legal_push.Goals as goal
 
