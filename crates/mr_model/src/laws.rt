@@ -7,8 +7,8 @@ ghost use Rattle.mr_model.specs.declared.entry.Entry.{Entry};
 ghost use Rattle.mr_model.specs.declared.entry.Entry.TheVariants.{Slow, Settle};
 ghost use Rattle.mr_model.specs.declared.entry.FastRecord.{FastRecord};
 ghost use Rattle.mr_model.specs.declared.flow.Flow.{Flow};
-ghost use Rattle.mr_model.specs.declared.outcome.Outcome.{Outcome};
 ghost use Rattle.mr_model.specs.declared.limits.Limits.{Limits};
+ghost use Rattle.mr_model.specs.declared.outcome.Outcome.{Outcome};
 ghost use Rattle.mr_model.specs.declared.step.Step.TheVariants.{Kept};
 ghost use Rattle.mr_model.specs.Attempt.{attempted_by, attempts_from, attempt};
 ghost use Rattle.mr_model.specs.Changes.{change_in, changes};
@@ -113,7 +113,8 @@ pub fn fate_push()
     ensures { (limits : Limits) (h : List Entry) (e : Entry) (lane : LaneNo) (index : ℕ) → fate limits (h ++ e ∷ []) lane index ≡ fate_after (fate limits h lane index) (fate_in limits h e lane index) }
 {}
 
-/// The fast records of one more entry stand behind those before that have their look, and an entry that keeps none stands last.
+/// The fast records of one more entry stand behind those before that have their look, and an entry that is no Settle
+/// stands last.
 pub fn unfolded_push()
     ensures fast { (n : ℕ) (h : List Entry) (e : Entry) → fast_at n (h ++ e ∷ []) ≡ fast_at n h ++ fast_in n e }
     ensures kept { (h : List Entry) (e : Entry) → is_settle e ≡ false → unfolded (h ++ e ∷ []) ≡ unfolded h ++ Kept e ∷ fast_at (length h + 1) h }
@@ -143,7 +144,8 @@ pub fn state_agrees()
     ensures attempt { (limits : Limits) (h : List Entry) (n : ℕ) → last_attempt (state limits h).attempts n ≡ attempt h n }
 {}
 
-/// In a legal history the unread reports of the state are those pushed since the last good MRT_DONE that no receive took; receives take no more than was pushed.
+/// In a legal history the unread reports of the state are those pushed since the last good MRT_DONE that no receive took;
+/// receives take no more than was pushed.
 pub fn unread_agrees()
     ensures unread { (limits : Limits) (h : List Entry) → IsLegal limits h → (state limits h).unread ≡ unread limits h }
     ensures within { (limits : Limits) (h : List Entry) → IsLegal limits h → count_by is_taking (behind_finish h) ≤ length (pushed limits (up_to_finish h) (behind_finish h)) }
