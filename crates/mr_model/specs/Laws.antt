@@ -11,6 +11,7 @@ abbrev pub fate_after : Fate → Option Fate → Fate
 fate_after Waiting next = unwrap_or next Waiting
 fate_after fate next = fate
 
+-- an entry that keeps fast records
 abbrev pub is_settle : Entry → Bool
 is_settle (Settle lane records) = true
 is_settle _ = false
@@ -21,12 +22,13 @@ is_of_no_lane (Slow lane index look flow o) = false
 is_of_no_lane (Settle lane records) = false
 is_of_no_lane _ = true
 
--- whether the lane's last entry in this phase is a Settle of fewer than 64 records, after one more entry
+-- what one more entry makes of whether the lane is left short
 abbrev pub short_after : LaneNo → Bool → Entry → Bool
 short_after lane before EndPhase = false
 short_after lane before (Settle l records) = if l.0 == lane.0 then nat_lt (length records) 64 else before
 short_after lane before (Slow l index look flow o) = if l.0 == lane.0 then false else before
 short_after lane before _ = before
 
+-- whether the lane's last entry in the present phase is a Settle of fewer than 64 records
 abbrev pub is_left_short : LaneNo → List Entry → Bool
 is_left_short lane h = fold (short_after lane) false h
