@@ -25,3 +25,4 @@ pub mod Past
 pub mod Legal
 pub mod Lively
 pub mod Unfolded
+pub mod Laws

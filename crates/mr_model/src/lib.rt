@@ -6,6 +6,7 @@ mod caller;
 mod ending;
 mod entry;
 mod flow;
+mod laws;
 mod limits;
 mod message;
 mod outcome;
@@ -19,6 +20,11 @@ pub use caller::{CallError, Caller};
 pub use ending::{Ending, Fate, FateLine};
 pub use entry::{Entry, FastRecord, ReleasedId};
 pub use flow::Flow;
+pub use laws::{
+    attempts_push, changes_push, fate_push, legal_push, legal_within, lively_lane_push,
+    lively_push, met_push, now_push, owner_push, past_push, pushed_push, route_counts_push,
+    state_agrees, state_push, switches_push, unfolded_push, unread_agrees, vif_counts_push,
+};
 pub use limits::Limits;
 pub use message::{Kind, MessageId, Told};
 pub use outcome::{Cause, Outcome, Report};

@@ -1,0 +1,5 @@
+use Rattle.mr_model.proofs.PushingFates as lemma
+use Rattle.mr_model.proofs.laws.fate_push.Goals as goal
+
+pub returns : goal.returns
+returns c = lemma.fate_push

@@ -1,0 +1,5 @@
+use Rattle.mr_model.proofs.PushingLists as lemma
+use Rattle.mr_model.proofs.laws.owner_push.Goals as goal
+
+pub returns : goal.returns
+returns c = lemma.owner_push
