@@ -5,6 +5,7 @@ mod cursor;
 mod draft;
 mod forms;
 mod head_lines;
+mod phase_lines;
 mod scenario;
 mod status;
 mod stop;
