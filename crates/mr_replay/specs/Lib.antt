@@ -6,4 +6,5 @@ pub mod Text
 pub mod Played
 pub mod Fits
 pub mod Built
+pub mod Laws
 pub mod Endings

@@ -2,8 +2,10 @@
 #![tactic(auto)]
 
 mod draft;
+mod laws;
 mod scenario;
 mod status;
 
+pub use laws::built_text;
 pub use scenario::{DaemonKind, Given, Item, Named, Phase, Scenario, Script, ScriptLine};
 pub use status::Status;

@@ -1,0 +1,8 @@
+//! Laws of scenarios, of their runs and of their texts.
+
+ghost use Rattle.mr_replay.specs.Laws.{BuiltText};
+
+/// The text of a history of good Inits and ends of phases has nothing but the entries between its first and its last line.
+pub fn built_text()
+    ensures { BuiltText }
+{}
