@@ -6,6 +6,6 @@ mod laws;
 mod scenario;
 mod status;
 
-pub use laws::built_text;
+pub use laws::{built_text, played_is_legal};
 pub use scenario::{DaemonKind, Given, Item, Named, Phase, Scenario, Script, ScriptLine};
 pub use status::Status;

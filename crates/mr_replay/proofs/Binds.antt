@@ -1,0 +1,16 @@
+-- What a result that is `Ok` says of its parts.
+use Rattle.std.proofs.Common.{◌≡◌, ℕ, Bool, true, false, Result, Ok, Err, refl}
+use Rattle.std.specs.Prelude.{if◌then◌else◌}
+use Rattle.mr_replay.specs.Spelled.{◌>>=◌}
+
+pub bind_ok : {A B E : Type 0} (r : Result A E) (f : A → Result B E) (y : B) → (r >>= f) ≡ Ok y → (x : A) × (r ≡ Ok x) × (f x ≡ Ok y)
+bind_ok (Ok x) f y e = (x, refl, e)
+bind_ok (Err d) f y e = absurd (cc)
+
+pub same_ok : {A E : Type 0} (x y : A) → ◌≡◌ {A = Result A E} (Ok x) (Ok y) → x ≡ y
+same_ok x y e = cc
+
+-- the value that a test lets through
+pub passed : {A E : Type 0} (test : Bool) (x y : A) (d : E) → (if test then Ok x else Err d) ≡ Ok y → x ≡ y
+passed true x y d e = cc
+passed false x y d e = absurd (cc)
