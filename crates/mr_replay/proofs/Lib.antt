@@ -3,5 +3,7 @@ pub mod Bare
 pub mod BuiltText
 pub mod LegalPush
 pub mod Binds
+pub mod Each
 pub mod Lines
 pub mod Phases
+pub mod FitsDraft

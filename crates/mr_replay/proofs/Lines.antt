@@ -11,7 +11,7 @@ use Rattle.mr_model.specs.declared.entry.Entry.TheVariants.{Call}
 use Rattle.mr_model.specs.declared.limits.Limits.{Limits}
 use Rattle.mr_model.specs.declared.request.Request.{Request}
 use Rattle.mr_model.specs.Answer.{answer}
-use Rattle.mr_model.specs.Legal.{IsDaemon, IsLegal, Agrees}
+use Rattle.mr_model.specs.Legal.{IsDaemon, IsLegal}
 use Rattle.mr_model.specs.Past.{controls, phases, is_control, is_end}
 use Rattle.mr_replay.specs.declared.scenario.Script.{Script}
 use Rattle.mr_replay.specs.declared.scenario.Script.TheVariants as script

@@ -7,7 +7,6 @@ use Rattle.std.specs.List.{AllByRecursion}
 use Rattle.std.specs.Prelude.{sum_by, if◌then◌else◌}
 use Rattle.mr_model.specs.declared.entry.Entry.{Entry}
 use Rattle.mr_model.specs.declared.entry.Entry.TheVariants.{EndPhase}
-use Rattle.mr_model.specs.declared.limits.Limits.{Limits}
 use Rattle.mr_model.specs.Legal.{IsDaemon, IsLegal}
 use Rattle.mr_model.specs.Past.{controls, phases, is_control, is_end}
 use Rattle.mr_replay.specs.declared.scenario.Item.{Item}
@@ -47,17 +46,17 @@ plays_more s before h m p ps g none lines rest = record {
   made = (lines.part, rest.part, refl, is_part s before h p m none lines, rest.made);
 }
 
-abbrev lines_of : Phase → ℕ
-lines_of p = length p.script
+abbrev script_length : Phase → ℕ
+script_length p = length p.script
 
 phases_play : (s : Scenario) (before : List Item) (h : List Entry) (ps : List Phase) (g : List Entry) → IsLegal s.limits h
-  → AllByRecursion (λ p. AllByRecursion (λ l. IsDaemon s.limits l.daemon) p.script) ps → AllByRecursion (λ p. p.items ≡ []) ps
-  → controls h + sum_by (λ p. length p.script) ps ≤ s.limits.controls → phases h + length ps ≤ s.limits.phases
-  → play_phases s.limits h ps ≡ Ok g → PlaysPhases s before h ps g
+    → AllByRecursion (λ p. AllByRecursion (λ l. IsDaemon s.limits l.daemon) p.script) ps → AllByRecursion (λ p. p.items ≡ []) ps
+    → controls h + sum_by (λ p. length p.script) ps ≤ s.limits.controls → phases h + length ps ≤ s.limits.phases
+    → play_phases s.limits h ps ≡ Ok g → PlaysPhases s before h ps g
 phases_play s before h [] g legal daemons none room phases_room e =
     subst (λ (x : List Entry). PlaysPhases s before h [] x) (same_ok h g e) (plays_none s before h legal)
 phases_play s before h (p ∷ ps) g legal daemons none room phases_room e =
-    let sums : sum_by lines_of (p ∷ ps) ≡ length p.script + sum_by lines_of ps = sum_by-cons lines_of p ps in
+    let sums : sum_by script_length (p ∷ ps) ≡ length p.script + sum_by script_length ps = sum_by-cons script_length p ps in
     let b = bind_ok (play_lines s.limits h p.script) (λ m. play_phases s.limits (m ++ EndPhase ∷ []) ps) g e in
     let lines : Plays s.limits h p.script b.0 = lines_play s.limits h p.script b.0 legal daemons.0 (omega arith) b.1 in
     let ended : List Entry = b.0 ++ EndPhase ∷ [] in
@@ -65,7 +64,7 @@ phases_play s before h (p ∷ ps) g legal daemons none room phases_room e =
     let end : phases ended ≡ phases b.0 + 1 = sum_by_push (λ e. if is_end e then 1 else 0) b.0 EndPhase in
     let legal_end : IsLegal s.limits ended = legal_push s.limits b.0 EndPhase lines.legal (omega arith) in
     plays_more s before h b.0 p ps g none.0 lines
-      (phases_play s (before ++ p.items) ended ps g legal_end daemons.1 none.1 (omega arith) (omega arith) b.2)
+    (phases_play s (before ++ p.items) ended ps g legal_end daemons.1 none.1 (omega arith) (omega arith) b.2)
 
 pub played_legal : PlayedIsLegal
 played_legal s h fits e =

@@ -1,6 +1,11 @@
 //! Laws of scenarios, of their runs and of their texts.
 
-ghost use Rattle.mr_replay.specs.Laws.{BuiltText, PlayedIsLegal};
+ghost use Rattle.mr_replay.specs.Laws.{BuiltText, PlayedIsLegal, SpelledFits};
+
+/// A scenario that bytes spell fits its own limits.
+pub fn spelled_fits()
+    ensures { SpelledFits }
+{}
 
 /// The history of a scenario that fits its limits is legal, and has what the scenario asks.
 pub fn played_is_legal()
