@@ -1,3 +1,12 @@
 pub mod Cuts
 pub mod Numbers
 pub mod Names
+pub mod Calls
+pub mod Bare
+pub mod BuiltText
+pub mod LegalPush
+pub mod Binds
+pub mod Each
+pub mod Lines
+pub mod Phases
+pub mod FitsDraft

@@ -6,5 +6,7 @@ pub mod Text
 pub mod Played
 pub mod Fits
 pub mod Built
+pub mod Machines
+pub mod Laws
 pub mod Endings
 pub mod Answers

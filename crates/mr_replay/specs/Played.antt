@@ -7,6 +7,7 @@ use Rattle.mr_model.specs.declared.limits.Limits.{Limits}
 use Rattle.mr_model.specs.declared.reply.Reply.{Reply}
 use Rattle.mr_model.specs.declared.reply.Reply.TheVariants.{Good}
 use Rattle.mr_model.specs.declared.request.Request.{Request}
+use Rattle.mr_model.specs.declared.request.Request.TheVariants as request
 use Rattle.mr_model.specs.Answer.{Answered, answer}
 use Rattle.mr_replay.specs.declared.scenario.Phase.{Phase}
 use Rattle.mr_replay.specs.declared.scenario.Scenario.{Scenario}
@@ -19,12 +20,17 @@ abbrev pub is_good : Reply → Bool
 is_good Good = true
 is_good _ = false
 
+-- the requests that are built
+abbrev pub is_built : Request → Bool
+is_built request.Init = true
+is_built _ = false
+
 -- the history behind h with a call that was answered so; the call's line where the answer is not built
 abbrev pub with_call : List Entry → ℕ → DaemonNo → Request → Answered → Result (List Entry) ℕ
 with_call h line d r a = if is_good a.reply then Ok (h ++ Call d r a.reply a.released ∷ []) else Err line
 
 abbrev pub play_script : Limits → List Entry → ℕ → DaemonNo → Script → Result (List Entry) ℕ
-play_script limits h line d (script.Ask r) = with_call h line d r (answer limits h d r)
+play_script limits h line d (script.Ask r) = if is_built r then with_call h line d r (answer limits h d r) else Err line
 -- ticks and receives are not built
 play_script limits h line d _ = Err line
 

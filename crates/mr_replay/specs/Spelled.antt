@@ -1,5 +1,5 @@
 -- What the lines of a scenario spell, as far as they are built: `scenario 1` first, then head lines, then phases.
-use Rattle.std.specs.Prelude.{ℕ, ◌+◌, ◌&&◌, Bool, true, false, not, min, nat_lt, is_none, if◌then◌else◌, Option, Some, None, option_and_then, option_to_list, Result, Ok, Err, List, [], ◌∷◌, ◌++◌, length, map, bytes_eq, codes}
+use Rattle.std.specs.Prelude.{ℕ, ◌+◌, ◌&&◌, Bool, true, false, not, min, nat_lt, nat_le, is_none, if◌then◌else◌, Option, Some, None, option_and_then, option_to_list, Result, Ok, Err, List, [], ◌∷◌, ◌++◌, length, map, bytes_eq, codes}
 use Rattle.mr_base.specs.declared.device.Device.{Device}
 use Rattle.mr_model.specs.declared.limits.Limits.{Limits}
 use Rattle.mr_model.specs.declared.request.Request.TheVariants.{Init}
@@ -72,17 +72,17 @@ with_script p l = record p { script = p.script ++ l ∷ [] }
 abbrev pub with_line : Draft → ScriptLine → Phase → Draft
 with_line d l p = record d { asked = d.asked + 1; current = Some (with_script p l) }
 
--- the line of a daemon that is declared; 65,536 of them at most
+-- the line of a daemon that is declared, 65,536 lines at most
 abbrev pub asked_line : ℕ → Draft → Phase → ℕ → Script → Option Draft
 asked_line n d p number s =
-    when (nat_lt 0 number && nat_lt d.asked 65536)
+    when (nat_lt 0 number && nat_le number (length d.daemons) && nat_lt d.asked 65536)
     (Some (with_line d (record { line = n; daemon = record { 0 = number }; script = s }) p))
 
 -- `daemon D OP ..`, in a phase
 abbrev pub script_line : ℕ → Draft → Phase → List (List ℕ) → Option Draft
 script_line n d p [] = None
 script_line n d p (number ∷ ws) =
-    option_and_then (λ i. option_and_then (asked_line n d p i) (script_of ws)) (number_of (length d.daemons) number)
+    option_and_then (λ i. option_and_then (asked_line n d p i) (script_of ws)) (number_of 8 number)
 
 abbrev pub daemon_line_in : ℕ → Draft → Option Phase → List (List ℕ) → Option Draft
 daemon_line_in n d None ws = daemon_head d ws
@@ -93,11 +93,11 @@ abbrev pub phases_so_far : Draft → List Phase
 phases_so_far d = d.phases ++ option_to_list d.current
 
 abbrev pub with_phase : ℕ → Draft → Draft
-with_phase n d = record d { phases = phases_so_far d; current = Some (record { line = n; items = []; script = [] }) }
+with_phase n d = record d { opened = d.opened + 1; phases = phases_so_far d; current = Some (record { line = n; items = []; script = [] }) }
 
 -- `phase`, at most 1,000
 abbrev pub phase_line : ℕ → Draft → List (List ℕ) → Option Draft
-phase_line n d [] = when (nat_lt (length (phases_so_far d)) 1000) (Some (with_phase n d))
+phase_line n d [] = when (nat_lt d.opened 1000) (Some (with_phase n d))
 phase_line n d _ = None
 
 abbrev pub line_by_word : ℕ → Draft → List ℕ → List (List ℕ) → Option Draft
@@ -135,7 +135,7 @@ draft_from n d [] = Ok d
 draft_from n d (l ∷ ls) = draft_line n d l >>= λ t. draft_from (next_line n) t ls
 
 abbrev pub empty_draft : Draft
-empty_draft = record { begun = false; devices = []; daemons = []; asked = 0; phases = []; current = None }
+empty_draft = record { begun = false; devices = []; daemons = []; asked = 0; opened = 0; phases = []; current = None }
 
 abbrev pub is_admin_kind : DaemonKind → Bool
 is_admin_kind Admin = true
@@ -148,7 +148,7 @@ device_of d = record { addr = d.addr }
 abbrev pub limits_of : Draft → Limits
 limits_of d = record {
   entries = 1024; unresolved = 10; controls = 65536;
-  phases = length (phases_so_far d);
+  phases = d.opened;
   packets = 0 ∷ [];
   admins = map is_admin_kind d.daemons;
   devices = map device_of d.devices;

@@ -10,6 +10,8 @@ pub struct Draft {
     pub daemons: List<DaemonKind>,
     /// How many script lines there are.
     pub asked: u32,
+    /// How many phases there are.
+    pub opened: u32,
     /// The phases that have ended.
     pub phases: List<Phase>,
     /// The phase whose lines are read now.

@@ -6,9 +6,15 @@ mod draft;
 mod forms;
 mod head_lines;
 mod phase_lines;
+mod playing;
+mod reading;
+mod laws;
+mod machine;
 mod scenario;
 mod status;
 mod stop;
+mod writing;
 
+pub use laws::{built_text, played_is_legal, spelled_fits};
 pub use scenario::{DaemonKind, Given, Item, Named, Phase, Scenario, Script, ScriptLine};
 pub use status::Status;

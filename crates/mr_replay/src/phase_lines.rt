@@ -1,9 +1,9 @@
 //! The line `phase`, and the lines of a phase.
 
-ghost use Rattle.std.specs.Prelude.{◌≡◌, ◌≤◌, ◌<◌, length, None, MatchOption, OnOk};
+ghost use Rattle.std.specs.Prelude.{◌≡◌, ◌<◌, ◌&&◌, nat_lt, nat_le, length, None, OnOk};
 ghost use Rattle.mr_replay.specs.Answers.{Reads, Steps};
 ghost use Rattle.mr_replay.specs.Words.{words_of};
-ghost use Rattle.mr_replay.specs.Spelled.{script_of, asked_line, script_line, daemon_line_in, phases_so_far, phase_line};
+ghost use Rattle.mr_replay.specs.Spelled.{script_of, with_line, script_line, daemon_line_in, phases_so_far, phase_line};
 
 use crate::cursor::next_word;
 use crate::draft::Draft;
@@ -26,43 +26,63 @@ fn script_of(words: &[u8]) -> Result<Script, Refusal>
     Ok(Script::Ask(Request::Init))
 }
 
-/// One more line of a phase's script.
-fn asked_line(line: u32, draft: &mut Draft, daemon: u32, script: Script) -> Result<(), Refusal>
-    ensures { MatchOption draft.old.current (Unit {0}) (λ p. Steps result draft.new (asked_line line draft.old p daemon script)) }
+/// Whether a daemon has this number, and another script line may stand.
+fn may_ask(draft: &Draft, daemon: u32) -> bool
+    ensures { result ≡ (nat_lt 0 daemon && nat_le daemon (length draft.now.daemons) && nat_lt draft.now.asked 65536) }
 {
-    if daemon == 0 || draft.asked >= 65_536 {
-        return Err(Refusal::NotBuilt);
-    }
-    if let Some(phase) = &mut draft.current {
-        phase.script.0.push(ScriptLine {
-            line,
-            daemon: DaemonNo(daemon),
-            script,
-        })?;
-        draft.asked += 1;
-    }
+    daemon > 0 && daemon as usize <= draft.daemons.0.len() && draft.asked < 65_536
+}
+
+/// One more line of the script of a phase, which is the one whose lines are read.
+fn push_line(draft: &mut Draft, phase: Phase, line: ScriptLine) -> Result<(), AllocError>
+    requires { draft.old.asked < 65536 }
+    ensures { OnOk result (draft.new ≡ with_line draft.old line phase) }
+{
+    let mut phase = phase;
+    phase.script.0.push(line)?;
+    draft.asked += 1;
+    draft.current = Some(phase);
     Ok(())
 }
 
 /// `daemon D OP` in a phase: the words behind the first.
-fn script_line(line: u32, draft: &mut Draft, words: &[u8]) -> Result<(), Refusal>
-    ensures { MatchOption draft.old.current (Unit {0}) (λ p. Steps result draft.new (script_line line draft.old p (words_of words.now))) }
+fn script_line(
+    line: u32,
+    draft: &mut Draft,
+    phase: Phase,
+    words: &[u8],
+) -> Result<(), Refusal>
+    ensures { Steps result draft.new (script_line line draft.old phase (words_of words.now)) }
 {
     let (number, rest) = next_word(words).ok_or(Refusal::NotBuilt)?;
-    let daemon = number_of(number, draft.daemons.0.len() as u32).ok_or(Refusal::NotBuilt)?;
+    let daemon = number_of(number, 8).ok_or(Refusal::NotBuilt)?;
     let script = script_of(rest)?;
-    asked_line(line, draft, daemon, script)
+    if !may_ask(draft, daemon) {
+        return Err(Refusal::NotBuilt);
+    }
+    let daemon = DaemonNo(daemon);
+    push_line(
+        draft,
+        phase,
+        ScriptLine {
+            line,
+            daemon,
+            script,
+        },
+    )?;
+    Ok(())
 }
 
 /// `daemon ..`: a head line, or in a phase a script line.
 pub fn daemon_line(line: u32, draft: &mut Draft, words: &[u8]) -> Result<(), Refusal>
-    requires { length draft.old.daemons ≤ 1 }
     ensures { Steps result draft.new (daemon_line_in line draft.old draft.old.current (words_of words.now)) }
 {
-    if draft.current.is_some() {
-        script_line(line, draft, words)
-    } else {
-        daemon_head(draft, words)
+    if draft.current.is_none() {
+        return daemon_head(draft, words);
+    }
+    match draft.current.take() {
+        None => daemon_head(draft, words),
+        Some(phase) => script_line(line, draft, phase, words),
     }
 }
 
@@ -83,10 +103,11 @@ pub fn phase_line(alloc: Global, line: u32, draft: &mut Draft, words: &[u8]) -> 
     if next_word(words).is_some() {
         return Err(Refusal::NotBuilt);
     }
-    if draft.phases.0.len() + draft.current.is_some() as usize >= 1000 {
+    if draft.opened >= 1000 {
         return Err(Refusal::NotBuilt);
     }
     close_phase(draft)?;
+    draft.opened += 1;
     draft.current = Some(Phase {
         line,
         items: List(Vec::new(alloc)),

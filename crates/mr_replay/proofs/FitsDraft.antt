@@ -1,0 +1,182 @@
+-- A draft keeps within its own limits with each line.
+use Rattle.std.proofs.Common.{◌≡◌, ℕ, ◌≤◌, ◌<◌, ◌&&◌, Bool, true, Option, Some, None, List, [], ◌∷◌, ◌++◌, length, refl, arith, cond, subst}
+use Rattle.std.proofs.lemmas.Bool.{and_parts, ltb-true, leb-true}
+use Rattle.std.proofs.lemmas.List.{length-append, length-map}
+use Rattle.std.proofs.lemmas.List.Sums.{sum_by_push}
+use Rattle.std.proofs.lemmas.Result.{IfOk-at_ok}
+use Rattle.std.specs.List.{AllByRecursion, fold}
+use Rattle.std.specs.Prelude.{sum_by, IfSome, IfOk, nat_lt, nat_le, not, is_none, option_and_then, option_to_list, bytes_eq, codes, map}
+use Rattle.mr_model.specs.Legal.{IsDaemon}
+use Rattle.mr_replay.specs.declared.draft.Draft.{Draft}
+use Rattle.mr_replay.specs.declared.scenario.DaemonKind.TheVariants.{Admin}
+use Rattle.mr_replay.specs.declared.scenario.Phase.{Phase}
+use Rattle.mr_replay.specs.declared.scenario.Scenario.{Scenario}
+use Rattle.mr_replay.specs.declared.scenario.Script.{Script}
+use Rattle.mr_replay.specs.declared.scenario.ScriptLine.{ScriptLine}
+use Rattle.mr_replay.specs.Fits.{Fits}
+use Rattle.mr_replay.specs.Forms.{number_of, is_numeral, digit_on, address_of, is_device_name, is_taken}
+use Rattle.mr_replay.specs.Laws.{SpelledFits}
+use Rattle.mr_replay.specs.Spelled.{when, header_line, with_device, device_line, daemon_head, script_of, with_script, with_line, asked_line, script_line, daemon_line_in, phases_so_far, with_phase, phase_line, line_by_word, line_of, next_line, line_gives, draft_line, draft_from, empty_draft, is_admin_kind, limits_of, whole}
+use Rattle.mr_replay.specs.Words.{lines_of, without_return, words_of}
+use Rattle.mr_replay.proofs.Binds.{some_when, some_if, some_then, ok_then, any_some, ok_if}
+use Rattle.mr_replay.proofs.Each.{all_weaker, all_push, all_front, all_last}
+
+-- The line is of one of so many daemons.
+record IsOf (daemons : ℕ) (l : ScriptLine) : Type 0 where
+  first : 1 ≤ l.daemon.0
+  last : l.daemon.0 ≤ daemons
+
+-- The phase has no items, and its lines are of so many daemons.
+record IsFair (daemons : ℕ) (p : Phase) : Type 0 where
+  none : p.items ≡ []
+  lines : AllByRecursion (IsOf daemons) p.script
+
+abbrev script_length : Phase → ℕ
+script_length p = length p.script
+
+-- The draft keeps within its limits.
+record Keeps (d : Draft) : Type 0 where
+  asked : sum_by script_length (phases_so_far d) ≡ d.asked
+  most : d.asked ≤ 65536
+  opened : d.opened ≡ length (phases_so_far d)
+  fair : AllByRecursion (IsFair (length d.daemons)) (phases_so_far d)
+
+abbrev Kept : Option Draft → Type 0
+Kept o = IfSome o Keeps
+
+-- more daemons
+fair_more : (n m : ℕ) → n ≤ m → (ps : List Phase) → AllByRecursion (IsFair n) ps → AllByRecursion (IsFair m) ps
+fair_more n m le ps a =
+    all_weaker (IsFair n) (IsFair m) (λ p f. record {
+      none = f.none;
+      lines = all_weaker (IsOf n) (IsOf m) (λ l i. record { first = i.first; last = omega arith }) p.script f.lines;
+    }) ps a
+
+header_keeps : (d : Draft) (ws : List (List ℕ)) → Keeps d → Kept (header_line d ws)
+header_keeps d (a ∷ b ∷ []) k =
+    some_when (bytes_eq a (codes "scenario") && bytes_eq b (codes "1")) (Some (record d { begun = true })) Keeps
+    (λ _. record { asked = k.asked; most = k.most; opened = k.opened; fair = k.fair })
+header_keeps d [] k = tt
+header_keeps d (a ∷ []) k = tt
+header_keeps d (a ∷ b ∷ c ∷ ws) k = tt
+
+device_keeps : (d : Draft) (ws : List (List ℕ)) → Keeps d → Kept (device_line d ws)
+device_keeps d (name ∷ addr ∷ []) k =
+    some_when (is_none d.current) _ Keeps (λ _.
+    some_when (is_device_name name && not (is_taken d.devices name)) _ Keeps (λ _.
+    some_then (λ a. when (nat_lt (length d.devices) 64) (Some (with_device d name a))) (address_of addr) (λ x. Unit {0}) Keeps (any_some (address_of addr)) (λ a _.
+    some_when (nat_lt (length d.devices) 64) (Some (with_device d name a)) Keeps (λ _.
+    record { asked = k.asked; most = k.most; opened = k.opened; fair = k.fair }))))
+device_keeps d [] k = tt
+device_keeps d (a ∷ []) k = tt
+device_keeps d (a ∷ b ∷ c ∷ ws) k = tt
+
+daemon_keeps : (d : Draft) (ws : List (List ℕ)) → Keeps d → Kept (daemon_head d ws)
+daemon_keeps d (kind ∷ []) k =
+    some_when (bytes_eq kind (codes "admin")) _ Keeps (λ _.
+    some_when (nat_lt (length d.daemons) 1) (Some (record d { daemons = d.daemons ++ Admin ∷ [] })) Keeps (λ _.
+    record {
+      asked = k.asked;
+      most = k.most;
+      opened = k.opened;
+      fair = fair_more (length d.daemons) (length (d.daemons ++ Admin ∷ [])) (omega (arith, length-append d.daemons (Admin ∷ []))) (phases_so_far d) k.fair;
+    }))
+daemon_keeps d [] k = tt
+daemon_keeps d (a ∷ b ∷ ws) k = tt
+
+-- one more line of the phase that is read
+line_keeps : (d : Draft) (p : Phase) (l : ScriptLine) → Keeps d → d.current ≡ Some p → d.asked < 65536 → IsOf (length d.daemons) l → Keeps (with_line d l p)
+line_keeps d p l k now room is =
+    let fair : AllByRecursion (IsFair (length d.daemons)) (d.phases ++ p ∷ []) =
+    subst (λ (c : Option Phase). AllByRecursion (IsFair (length d.daemons)) (d.phases ++ option_to_list c)) now k.fair in
+    let last : IsFair (length d.daemons) p = all_last (IsFair (length d.daemons)) d.phases p fair in
+    let asked : sum_by script_length (d.phases ++ p ∷ []) ≡ d.asked =
+    subst (λ (c : Option Phase). sum_by script_length (d.phases ++ option_to_list c) ≡ d.asked) now k.asked in
+    let opened : d.opened ≡ length (d.phases ++ p ∷ []) =
+    subst (λ (c : Option Phase). d.opened ≡ length (d.phases ++ option_to_list c)) now k.opened in
+    record {
+      opened = omega (arith, opened, length-append d.phases (p ∷ []), length-append d.phases (with_script p l ∷ []));
+      asked = omega (arith, asked, sum_by_push script_length d.phases p, sum_by_push script_length d.phases (with_script p l), length-append p.script (l ∷ []));
+      most = omega arith;
+      fair = all_push (IsFair (length d.daemons)) d.phases (with_script p l) (all_front (IsFair (length d.daemons)) d.phases p fair)
+          (record { none = last.none; lines = all_push (IsOf (length d.daemons)) p.script l last.lines is });
+    }
+
+asked_keeps : (n : ℕ) (d : Draft) (p : Phase) (number : ℕ) (s : Script) → Keeps d → d.current ≡ Some p → Kept (asked_line n d p number s)
+asked_keeps n d p number s k now =
+    some_when (nat_lt 0 number && nat_le number (length d.daemons) && nat_lt d.asked 65536) _ Keeps (λ e.
+    let both = and_parts (nat_lt 0 number && nat_le number (length d.daemons)) (nat_lt d.asked 65536) e in
+    let among = and_parts (nat_lt 0 number) (nat_le number (length d.daemons)) both.0 in
+    line_keeps d p (record { line = n; daemon = record { 0 = number }; script = s }) k now (ltb-true d.asked 65536 both.1)
+    (record { first = ltb-true 0 number among.0; last = leb-true number (length d.daemons) among.1 }))
+
+script_keeps : (n : ℕ) (d : Draft) (p : Phase) (ws : List (List ℕ)) → Keeps d → d.current ≡ Some p → Kept (script_line n d p ws)
+script_keeps n d p [] k now = tt
+script_keeps n d p (number ∷ ws) k now =
+    some_then (λ i. option_and_then (asked_line n d p i) (script_of ws)) (number_of 8 number) (λ i. Unit {0}) Keeps (any_some (number_of 8 number)) (λ i _.
+    some_then (asked_line n d p i) (script_of ws) (λ s. Unit {0}) Keeps (any_some (script_of ws)) (λ s _.
+    asked_keeps n d p i s k now))
+
+daemon_in_keeps : (n : ℕ) (d : Draft) (c : Option Phase) (ws : List (List ℕ)) → Keeps d → d.current ≡ c → Kept (daemon_line_in n d c ws)
+daemon_in_keeps n d None ws k now = daemon_keeps d ws k
+daemon_in_keeps n d (Some p) ws k now = script_keeps n d p ws k now
+
+phase_keeps : (n : ℕ) (d : Draft) (ws : List (List ℕ)) → Keeps d → Kept (phase_line n d ws)
+phase_keeps n d [] k =
+    some_when (nat_lt d.opened 1000) (Some (with_phase n d)) Keeps (λ _.
+    let fresh : Phase = record { line = n; items = []; script = [] } in
+    record {
+      asked = omega (arith, k.asked, sum_by_push script_length (phases_so_far d) fresh);
+      most = k.most;
+      opened = omega (arith, k.opened, length-append (phases_so_far d) (fresh ∷ []));
+      fair = all_push (IsFair (length d.daemons)) (phases_so_far d) fresh k.fair (record { none = refl; lines = tt });
+    })
+phase_keeps n d (w ∷ ws) k = tt
+
+word_keeps : (n : ℕ) (d : Draft) (w : List ℕ) (ws : List (List ℕ)) → Keeps d → Kept (line_by_word n d w ws)
+word_keeps n d w ws k =
+    some_if (bytes_eq w (codes "device")) _ _ Keeps (device_keeps d ws k)
+    (some_if (bytes_eq w (codes "daemon")) _ _ Keeps (daemon_in_keeps n d d.current ws k refl)
+    (some_if (bytes_eq w (codes "phase")) (phase_line n d ws) None Keeps (phase_keeps n d ws k) tt))
+
+words_keep : (n : ℕ) (d : Draft) (ws : List (List ℕ)) → Keeps d → Kept (line_of n d ws)
+words_keep n d [] k = k
+words_keep n d (w ∷ ws) k = some_if d.begun _ _ Keeps (word_keeps n d w ws k) (header_keeps d (w ∷ ws) k)
+
+gives_keeps : (n : ℕ) (o : Option Draft) → Kept o → IfOk (line_gives n o) Keeps
+gives_keeps n None k = tt
+gives_keeps n (Some d) k = k
+
+lines_keep : (n : ℕ) (d : Draft) (ls : List (List ℕ)) → Keeps d → IfOk (draft_from n d ls) Keeps
+lines_keep n d [] k = k
+lines_keep n d (l ∷ ls) k =
+    ok_then (draft_line n d l) (λ t. draft_from (next_line n) t ls) Keeps Keeps
+    (gives_keeps n (line_of n d (words_of (without_return l))) (words_keep n d (words_of (without_return l)) k))
+    (λ t kept. lines_keep (next_line n) t ls kept)
+
+whole_fits : (d : Draft) → Keeps d → IfOk (whole d) Fits
+whole_fits d k = ok_if d.begun made 1 Fits fits
+  where
+    made : Scenario
+    made = record { limits = limits_of d; devices = d.devices; lanes = 1; daemons = d.daemons; phases = phases_so_far d }
+
+    same : length (map is_admin_kind d.daemons) ≡ length d.daemons
+    same = length-map d.daemons is_admin_kind
+
+    fits : Fits made
+    fits = record {
+      phases = omega (arith, k.opened);
+      controls = omega (arith, k.asked, k.most);
+      admins = same;
+      daemons = all_weaker (IsFair (length d.daemons)) (λ p. AllByRecursion (λ l. IsDaemon (limits_of d) l.daemon) p.script)
+          (λ p f. all_weaker (IsOf (length d.daemons)) (λ l. IsDaemon (limits_of d) l.daemon) (λ l i. record { first = i.first; last = omega (arith, same, i.last) }) p.script f.lines)
+          (phases_so_far d) k.fair;
+      no_items = all_weaker (IsFair (length d.daemons)) (λ p. p.items ≡ []) (λ p f. f.none) (phases_so_far d) k.fair;
+    }
+
+empty_keeps : Keeps empty_draft
+empty_keeps = record { asked = refl; most = omega arith; opened = refl; fair = tt }
+
+pub spelled_keeps : SpelledFits
+spelled_keeps bytes s e =
+    IfOk-at_ok Fits e (ok_then (draft_from 1 empty_draft (lines_of bytes)) whole Keeps Fits (lines_keep 1 empty_draft (lines_of bytes) empty_keeps) whole_fits)

@@ -1,0 +1,12 @@
+use Rattle.std.proofs.Common.{◌≡◌, drop}
+use Rattle.mr_replay.specs.Machines.{Follows}
+use Rattle.mr_replay.specs.Played.{play_lines}
+use Rattle.mr_replay.proofs.playing.play_lines.Given as goal
+
+-- the run so far and the lines left come to what all lines do
+abbrev pub invariant-loop-line : goal.invariant-loop-line
+invariant-loop-line l = record {
+  follows : Follows l.machine;
+  limits : l.machine.limits ≡ l.fn.machine.limits;
+  runs : play_lines l.machine.limits.now l.machine.entries.items (drop l.line-index l.lines) ≡ play_lines l.fn.machine.limits.now l.fn.machine.entries.items l.lines;
+}
