@@ -10,3 +10,4 @@ pub mod Each
 pub mod Lines
 pub mod Phases
 pub mod FitsDraft
+pub mod Running

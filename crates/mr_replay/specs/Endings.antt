@@ -1,11 +1,13 @@
 -- How a run may end, and what each status says.
-use Rattle.std.specs.Prelude.{◌≡◌, ℕ, ◌&&◌, Bool, not, nat_lt, nat_le, if◌then◌else◌, Option, Some, None, Ok, List, [], ◌∷◌, length, bytes_eq, codes, take}
-use Rattle.mr_base.specs.Outside.{Files, HasFile}
+use Rattle.std.specs.Prelude.{◌≡◌, ℕ, ◌&&◌, Bool, true, false, not, nat_lt, nat_le, if◌then◌else◌, Option, Some, None, Result, Ok, Err, List, [], ◌∷◌, length, bytes_eq, codes, take}
+use Rattle.mr_base.specs.Outside.{Files, HasFile, LastCall}
 use Rattle.mr_model.specs.declared.entry.Entry.{Entry}
 use Rattle.mr_model.specs.Legal.{IsLegal}
 use Rattle.mr_replay.specs.declared.scenario.Scenario.{Scenario}
 use Rattle.mr_replay.specs.declared.status.Status.{Status}
 use Rattle.mr_replay.specs.declared.status.Status.TheVariants as status
+use Rattle.mr_replay.specs.declared.stop.Stop.{Stop}
+use Rattle.mr_replay.specs.declared.stop.Stop.TheVariants as stop
 use Rattle.mr_replay.specs.Spelled.{spelled}
 use Rattle.mr_replay.specs.Played.{outcome_of}
 use Rattle.mr_replay.specs.Made.{Made}
@@ -30,11 +32,35 @@ pub record RunsTo (bytes text : List ℕ) : Type 0 where
   pub made : Made scenario history
   pub text_is : text ≡ history_text scenario history
 
--- A file of the store, with these bytes, is the one asked for.
+-- The file that the words ask for is in the store with these bytes.
 pub record IsAsked (words : List (List ℕ)) (told : Option Files) (bytes : List ℕ) : Type 0 where
   pub file : List ℕ
   pub asked : file_asked words ≡ Some file
   pub stored : HasFile told file bytes
+
+-- The file asked for runs to a text, and so much of the text is taken.
+pub record Replays (words : List (List ℕ)) (told : Option Files) (IsTaken : List ℕ → Type 0) : Type 0 where
+  pub bytes : List ℕ
+  pub text : List ℕ
+  pub asked : IsAsked words told bytes
+  pub run : RunsTo bytes text
+  pub taken : IsTaken text
+
+-- The file asked for stops at this line, the first that is not built.
+pub record Stops (words : List (List ℕ)) (told : Option Files) (line : ℕ) : Type 0 where
+  pub bytes : List ℕ
+  pub asked : IsAsked words told bytes
+  pub outcome : outcome_of bytes ≡ Err line
+
+-- the read of this file that failed
+abbrev pub failed_read : List ℕ → LastCall
+failed_read file = record { is_read = true; name = file; failed = true }
+
+-- the statuses with which nothing is written
+abbrev pub is_silent : Status → Bool
+is_silent status.Good = false
+is_silent status.SinkFault = false
+is_silent _ = true
 
 -- a fact for each status
 abbrev pub IfNotBuilt : Status → (ℕ → Type 0) → Type 0
@@ -44,3 +70,8 @@ IfNotBuilt _ P = Unit {0}
 abbrev pub IfStoreFault : Status → (List ℕ → Type 0) → Type 0
 IfStoreFault (status.StoreFault file) P = P file
 IfStoreFault _ P = Unit {0}
+
+-- Bytes that stop at a line are those whose first line that is not built it is.
+abbrev pub StopsAt : {A : Type 0} → Result A Stop → Result (List Entry) ℕ → Type 0
+StopsAt (Err (stop.NotBuilt line)) outcome = outcome ≡ Err line
+StopsAt _ outcome = Unit {0}

@@ -13,8 +13,10 @@ mod machine;
 mod scenario;
 mod status;
 mod stop;
+mod top;
 mod writing;
 
 pub use laws::{built_text, played_is_legal, spelled_fits};
 pub use scenario::{DaemonKind, Given, Item, Named, Phase, Scenario, Script, ScriptLine};
 pub use status::Status;
+pub use top::run;

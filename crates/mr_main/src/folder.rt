@@ -1,0 +1,96 @@
+ghost use Rattle.std.specs.Prelude.{◌≡◌, ◌≤◌, true, false, length};
+ghost use Rattle.mr_base.specs.Outside.{Rose};
+
+use mr_base::{Failed, FileName, ReadError, Store};
+use std::alloc::Global;
+use std::fs::File;
+use std::io::Read;
+use std::rt::Files;
+use std::{fs, io};
+
+/// The greatest length of a file, in bytes: a longer one is a failed read.
+const LONGEST: u64 = 268_435_456;
+
+/// The files of the folder in which the program was called. It tells nothing of what they hold.
+#[derive(Drop)]
+pub struct Folder<'a, R: Files + AllocGlobal> {
+    rt: &'a R,
+    faults: u64,
+    is_read: bool,
+    name: FileName,
+    failed: bool,
+}
+
+impl<'a, R: Files + AllocGlobal> Folder<'a, R> {
+    pub fn new(rt: &'a R) -> Self {
+        Folder {
+            rt,
+            faults: 0,
+            is_read: true,
+            name: FileName::new(""),
+            failed: false,
+        }
+    }
+
+    /// Keeps the facts of a call, and counts it where it failed.
+    fn keep(&mut self, is_read: bool, name: &str, failed: bool)
+        requires { length name.now ≤ 255 }
+        ensures kind { self.new.is_read ≡ is_read }
+        ensures name { self.new.name ≡ name.now }
+        ensures failed { self.new.failed ≡ failed }
+        ensures count { self.old.faults ≤ self.new.faults }
+        ensures fault { failed ≡ true → Rose self.old.faults self.new.faults }
+    {
+        if failed {
+            self.faults = self.faults.saturating_add(1);
+        }
+        self.is_read = is_read;
+        self.name = FileName::new(name);
+        self.failed = failed;
+    }
+
+    /// The bytes of a file, read to its end or to one more than the greatest length.
+    fn bytes_of(&self, alloc: Global, name: &str) -> io::Result<Vec<u8>> {
+        let file = File::open(self.rt, name)?;
+        let mut bytes = Vec::new(alloc);
+        file.take(LONGEST + 1).read_to_end(&mut bytes)?;
+        Ok(bytes)
+    }
+}
+
+impl<'a, R: Files + AllocGlobal> Store for Folder<'a, R> {
+    ghost use Rattle.std.specs.Prelude.{None};
+
+    ghost told = { λ s. None };
+
+    ghost faults = { λ s. s.faults };
+
+    ghost last = { λ s. record { is_read = s.is_read; name = s.name; failed = s.failed } };
+
+    fn read(&mut self, alloc: Global, name: &str) -> Result<Vec<u8>, ReadError> {
+        match self.bytes_of(alloc, name) {
+            Ok(bytes) => {
+                if bytes.len() as u64 > LONGEST {
+                    self.keep(true, name, true);
+                    return Err(ReadError::Failed);
+                }
+                self.keep(true, name, false);
+                Ok(bytes)
+            }
+            Err(e) => {
+                if e.kind() == io::ErrorKind::OutOfMemory {
+                    self.keep(true, name, false);
+                    return Err(ReadError::Memory);
+                }
+                self.keep(true, name, true);
+                Err(ReadError::Failed)
+            }
+        }
+    }
+
+    fn write(&mut self, name: &str, bytes: &[u8]) -> Result<(), Failed> {
+        let failed = fs::write(self.rt, name, bytes).is_err();
+        self.keep(false, name, failed);
+        if failed { Err(Failed) } else { Ok(()) }
+    }
+}

@@ -1,0 +1,121 @@
+//! The top call.
+
+ghost use Rattle.std.specs.Prelude.{◌≡◌, ◌⊎◌, ◌↔◌, ◌≤◌, length, map, string_bytes, MatchOption, IfOk, IfSome, None, Some, true};
+ghost use Rattle.mr_base.specs.Outside.{Rose, AllStay, Takes, TakesPrefix};
+ghost use Rattle.mr_replay.specs.Endings.{is_file_word, file_asked, RunsTo, Replays, Stops, StopsAt, failed_read, is_silent, IfNotBuilt, IfStoreFault};
+ghost use Rattle.mr_replay.specs.Played.{outcome_of};
+ghost use Rattle.mr_replay.specs.declared.status.Status.TheVariants as status;
+
+
+use crate::playing::play;
+use crate::reading::read_scenario;
+use crate::status::Status;
+use crate::stop::Stop;
+use crate::writing::write_history;
+use mr_base::{Clock, Door, FileName, Gate, ReadError, Sink, Store};
+use std::alloc::Global;
+use std::sync::Wait;
+use std::thread::Threads;
+
+/// Whether a word may name a file: 1 to 255 bytes, which do not begin with `out-`.
+fn is_file_word(word: &str) -> bool
+    ensures { result ≡ is_file_word word.now }
+{
+    let bytes = word.as_bytes();
+    !bytes.is_empty() && bytes.len() <= 255 && !bytes.starts_with(b"out-")
+}
+
+/// The file that the words ask to replay.
+fn file_asked(words: &[String]) -> Option<&str>
+    ensures asked { MatchOption result (file_asked (map string_bytes words.now) ≡ None) (λ w. file_asked (map string_bytes words.now) ≡ Some w.now) }
+    ensures some { IfSome result (λ w. 1 ≤ length w.now) }
+    ensures most { IfSome result (λ w. length w.now ≤ 255) }
+{
+    match words {
+        [command, file] => {
+            if command.as_str() == "replay" && is_file_word(file.as_str()) {
+                Some(file.as_str())
+            } else {
+                None
+            }
+        }
+        _ => None,
+    }
+}
+
+/// The text of the history that bytes come to.
+fn history_of(alloc: Global, bytes: &[u8]) -> Result<String, Stop>
+    ensures ran { IfOk result (λ s. RunsTo bytes.now (string_bytes s)) }
+    ensures stopped { StopsAt result (outcome_of bytes.now) }
+{
+    let scenario = read_scenario(alloc, bytes)?;
+    let entries = play(alloc, &scenario)?;
+    Ok(write_history(alloc, entries.as_slice())?)
+}
+
+/// Hands the history's text to the sink.
+fn put<K: Sink>(out: &mut K, text: &str) -> Status
+    ensures good { result ≡ status.Good → Takes (K.taken out.old) text.now (K.taken out.new) }
+    ensures fault { result ≡ status.SinkFault → Rose (K.faults out.old) (K.faults out.new) }
+    ensures cut { result ≡ status.SinkFault → TakesPrefix (K.taken out.old) text.now (K.taken out.new) }
+    ensures only { (result ≡ status.Good) ⊎ (result ≡ status.SinkFault) }
+{
+    match out.put(text.as_bytes()) {
+        Ok(()) => Status::Good,
+        Err(_) => Status::SinkFault,
+    }
+}
+
+/// Runs the command that `words` (those after the program's name) spell: `replay SCENARIO` reads the scenario of that
+/// name from the store, runs it and writes the text of its history to `out`. Other words are `Usage`.
+///
+/// The statuses in their order: `Usage`; `StoreFault`, where the scenario cannot be read; `NotBuilt` with the first line
+/// whose form is not built yet, or else with the first call whose answer is not; `SinkFault`. `Memory` may come wherever
+/// memory is taken. With any but `Good` and `SinkFault` nothing is written.
+///
+/// The runtime, the door, the clock and the gate are not asked yet.
+pub fn run<R: Wait + Threads + Sync, S: Store, K: Sink, D: Door, C: Clock, G: Gate + Sync>(
+    _rt: &R,
+    alloc: Global,
+    words: &[String],
+    store: &mut S,
+    out: &mut K,
+    _door: &mut D,
+    _clock: &mut C,
+    _gate: &G,
+) -> Status
+    // The words are not `replay SCENARIO`, with a file word.
+    ensures usage { (result ≡ status.Usage) ↔ (file_asked (map string_bytes words.now) ≡ None) }
+    // The sink took the text of a legal history of the scenario that the file spells, with what that asks in its order.
+    ensures good { result ≡ status.Good → Replays (map string_bytes words.now) (S.told store.old) (λ text. Takes (K.taken out.old) text (K.taken out.new)) }
+    // The first line of the file that is not built.
+    ensures not_built { IfNotBuilt result (λ line. Stops (map string_bytes words.now) (S.told store.old) line) }
+    // The file asked for, whose read failed, and the store's count rose.
+    ensures store_fault { IfStoreFault result (λ file. file_asked (map string_bytes words.now) ≡ Some file) }
+    ensures store_last { IfStoreFault result (λ file. S.last store.new ≡ failed_read file) }
+    ensures store_rose { IfStoreFault result (λ file. Rose (S.faults store.old) (S.faults store.new)) }
+    // What was taken is a prefix of the text that Good would have written, and the sink's count rose.
+    ensures sink_fault { result ≡ status.SinkFault → Replays (map string_bytes words.now) (S.told store.old) (λ text. TakesPrefix (K.taken out.old) text (K.taken out.new)) }
+    ensures sink_rose { result ≡ status.SinkFault → Rose (K.faults out.old) (K.faults out.new) }
+    // With the other statuses nothing is written, and no file ever changes.
+    ensures silent { is_silent result ≡ true → out.new ≡ out.old }
+    ensures files { AllStay (S.told store.old) (S.told store.new) }
+{
+    let Some(file) = file_asked(words) else {
+        return Status::Usage;
+    };
+    let bytes = match store.read(alloc, file) {
+        Ok(bytes) => bytes,
+        Err(ReadError::Failed) => {
+            return Status::StoreFault {
+                file: FileName::new(file),
+            };
+        }
+        Err(ReadError::Memory) => return Status::Memory,
+    };
+    match history_of(alloc, bytes.as_slice()) {
+        Ok(text) => put(out, text.as_str()),
+        Err(Stop::NotBuilt(line)) => Status::NotBuilt { line },
+        Err(Stop::Memory) => Status::Memory,
+    }
+}
