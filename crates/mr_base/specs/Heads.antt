@@ -1,5 +1,5 @@
 -- Accepted IPv4 heads (RFC 791 section 3.1), and the head with which a packet is sent on.
-use Rattle.std.specs.Prelude.{ℕ, ◌+◌, ◌-◌, ◌*◌, ◌/◌, ◌%◌, ◌==◌, ◌&&◌, ◌||◌, Bool, true, false, not, nat_lt, nat_le, is_none, if◌then◌else◌, Option, Some, None, List, [], ◌∷◌, ◌++◌, length, take, drop, slice_index, slice_set}
+use Rattle.std.specs.Prelude.{ℕ, ◌+◌, ◌-◌, ◌*◌, ◌/◌, ◌%◌, ◌==◌, ◌&&◌, ◌||◌, Bool, not, nat_lt, is_none, if◌then◌else◌, Option, Some, None, List, ◌∷◌, length, take, slice_index, slice_set}
 use Rattle.mr_base.specs.declared.head_error.HeadError.{HeadError}
 use Rattle.mr_base.specs.declared.head_error.HeadError.TheVariants.{Short, Version, HeaderLength, Checksum, TotalLength, NotMulticast, LinkLocal, BadSource}
 

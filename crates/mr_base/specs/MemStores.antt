@@ -10,4 +10,5 @@ bytes_eq = pointwise nat_eq
 -- the bytes of the first file of this name
 abbrev pub bytes_of : List (List ℕ × Vec ℕ) → List ℕ → Option (List ℕ)
 bytes_of [] name = None
-bytes_of (file ∷ files) name = if bytes_eq file.0 name then Some file.1.items else bytes_of files name
+bytes_of (file ∷ files) name =
+    if bytes_eq file.0 name then Some file.1.items else bytes_of files name

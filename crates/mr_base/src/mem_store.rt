@@ -64,8 +64,10 @@ impl MemStore {
     /// Sets the bytes of a file, or changes nothing where memory ran out.
     fn set(&mut self, name: &str, bytes: &[u8]) -> Result<(), AllocError>
         requires { length name.now ≤ 255 }
-        ensures bytes { OnOk result (HasFile (⟦<MemStore as Store>⟧.told self.new) name.now bytes.now) }
-        ensures others { OthersStay name.now (⟦<MemStore as Store>⟧.told self.old) (⟦<MemStore as Store>⟧.told self.new) }
+        ensures bytes { OnOk result
+            (HasFile (⟦<MemStore as Store>⟧.told self.new) name.now bytes.now) }
+        ensures others { OthersStay name.now
+            (⟦<MemStore as Store>⟧.told self.old) (⟦<MemStore as Store>⟧.told self.new) }
         ensures none { OnErr result (self.new.files.items ≡ self.old.files.items) }
         ensures faults { self.new.faults ≡ self.old.faults }
     {
@@ -79,7 +81,8 @@ impl MemStore {
     fn keep(&mut self, is_read: bool, name: &str, failed: bool)
         requires { length name.now ≤ 255 }
         ensures files { self.new.files ≡ self.old.files }
-        ensures last { self.new.last ≡ record { is_read = is_read; name = name.now; failed = failed } }
+        ensures last { self.new.last
+            ≡ record { is_read = is_read; name = name.now; failed = failed } }
         ensures count { self.old.faults ≤ self.new.faults }
         ensures fault { failed ≡ true → Rose self.old.faults self.new.faults }
     {
@@ -102,7 +105,8 @@ impl Store for MemStore {
 
     ghost faults = { λ s. s.faults };
 
-    ghost last = { λ s. record { is_read = s.last.is_read; name = s.last.name; failed = s.last.failed } };
+    ghost last = { λ s.
+        record { is_read = s.last.is_read; name = s.last.name; failed = s.last.failed } };
 
     fn read(&mut self, alloc: Global, name: &str) -> Result<Vec<u8>, ReadError> {
         let Some(bytes) = self.bytes(name) else {
@@ -124,10 +128,14 @@ impl Store for MemStore {
     /// Sets the bytes of a file, or changes no file where memory ran out.
     fn write(&mut self, name: &str, bytes: &[u8]) -> Result<(), Failed>
         requires { length name.now ≤ 255 }
-        ensures bytes { OnOk result (HasFile (⟦<MemStore as Store>⟧.told self.new) name.now bytes.now) }
-        ensures others { OthersStay name.now (⟦<MemStore as Store>⟧.told self.old) (⟦<MemStore as Store>⟧.told self.new) }
-        ensures none { OnErr result (AllStay (⟦<MemStore as Store>⟧.told self.old) (⟦<MemStore as Store>⟧.told self.new)) }
-        ensures count { ⟦<MemStore as Store>⟧.faults self.old ≤ ⟦<MemStore as Store>⟧.faults self.new }
+        ensures bytes { OnOk result
+            (HasFile (⟦<MemStore as Store>⟧.told self.new) name.now bytes.now) }
+        ensures others { OthersStay name.now
+            (⟦<MemStore as Store>⟧.told self.old) (⟦<MemStore as Store>⟧.told self.new) }
+        ensures none { OnErr result
+            (AllStay (⟦<MemStore as Store>⟧.told self.old) (⟦<MemStore as Store>⟧.told self.new)) }
+        ensures count { ⟦<MemStore as Store>⟧.faults self.old
+            ≤ ⟦<MemStore as Store>⟧.faults self.new }
         ensures fault { OnErr result
             (Rose (⟦<MemStore as Store>⟧.faults self.old) (⟦<MemStore as Store>⟧.faults self.new)) }
         ensures facts { ⟦<MemStore as Store>⟧.last self.new
