@@ -1,5 +1,5 @@
 -- What the traits of the outside say of their counts, and of what they took and gave. A `None` stands
--- for an object that does not tell: then nothing is said of its content, and it never begins to tell.
+-- for an object that does not tell: nothing is said of its content.
 use Rattle.std.specs.Prelude.{ℕ, ◌-◌, ◌^◌, ◌<◌, ◌≡◌, ◌≢◌, ◌⊎◌, Bool, true, false, Option, Some, None, List, [], ◌∷◌, ◌++◌, take, Result, Ok, Err, IfSome}
 use Rattle.mr_base.specs.declared.read_error.ReadError.{ReadError}
 use Rattle.mr_base.specs.declared.read_error.ReadError.TheVariants as read_error
