@@ -1,6 +1,6 @@
-ghost use Rattle.std.specs.Prelude.{◌≡◌, ◌≢◌, ◌≤◌, true, false, Some, None, IfSome, MatchOption, OnOk, OnErr, AllPairs, [], length};
+ghost use Rattle.std.specs.Prelude.{◌≡◌, ◌≢◌, ◌≤◌, true, false, Some, None, IsNone, IfSome, MatchOption, OnOk, OnErr, AllPairs, [], length};
 ghost use Rattle.mr_base.specs.Outside.{Rose, no_call, is_failed, HasFile, AllStay, OthersStay};
-ghost use Rattle.mr_base.specs.MemStores.{bytes_of};
+ghost use Rattle.mr_base.specs.MemStores.{bytes_of, IsPlaceOf};
 
 use crate::file_name::FileName;
 use crate::numbers::Failed;
@@ -61,6 +61,20 @@ impl MemStore {
         None
     }
 
+    /// The index of a file of this name.
+    fn place(&self, name: &str) -> Option<usize>
+        ensures found { IfSome result (IsPlaceOf name.now self.now.files.items) }
+        ensures absent { IsNone result → bytes_of self.now.files.items name.now ≡ None }
+    {
+        let files = self.files.as_slice();
+        for i in 0..files.len() {
+            if files[i].0.as_str() == name {
+                return Some(i);
+            }
+        }
+        None
+    }
+
     /// Sets the bytes of a file, or changes nothing where memory ran out.
     fn set(&mut self, name: &str, bytes: &[u8]) -> Result<(), AllocError>
         requires { length name.now ≤ 255 }
@@ -72,8 +86,12 @@ impl MemStore {
         ensures faults { self.new.faults ≡ self.old.faults }
     {
         let copy = Vec::from_slice(self.alloc, bytes)?;
-        // The newest file of a name stands first, so it is the one that is found.
+        let older = self.place(name);
+        // The growth comes first, so that nothing has changed where it is refused.
         self.files.insert(0, (FileName::new(name), copy))?;
+        if let Some(i) = older {
+            self.files.remove(i + 1);
+        }
         Ok(())
     }
 
