@@ -1,5 +1,5 @@
 -- Accepted IPv4 heads (RFC 791 section 3.1), and the head with which a packet is sent on.
-use Rattle.std.specs.Prelude.{ℕ, ◌+◌, ◌-◌, ◌*◌, ◌/◌, ◌%◌, ◌==◌, ◌&&◌, ◌||◌, Bool, true, false, not, nat_lt, nat_le, is_none, if◌then◌else◌, Option, Some, None, List, [], ◌∷◌, ◌++◌, length, take, drop, slice_index, slice_set}
+use Rattle.std.specs.Prelude.{ℕ, ◌+◌, ◌-◌, ◌*◌, ◌/◌, ◌%◌, ◌==◌, ◌&&◌, ◌||◌, Bool, not, nat_lt, is_none, if◌then◌else◌, Option, Some, None, List, [], ◌∷◌, length, take, slice_index, slice_set}
 use Rattle.mr_base.specs.declared.head_error.HeadError.{HeadError}
 use Rattle.mr_base.specs.declared.head_error.HeadError.TheVariants.{Short, Version, HeaderLength, Checksum, TotalLength, NotMulticast, LinkLocal, BadSource}
 
@@ -58,6 +58,10 @@ unfoldable pub is_head : List ℕ → ℕ → ℕ → ℕ → ℕ → Bool
 is_head bs total ttl src dst =
     is_none (cause_in total bs) && length bs == head_length bs
     && two_at bs 2 == total && slice_index bs 8 == ttl && four_at bs 12 == src && four_at bs 16 == dst
+
+-- The head that a `Head` has by default: from 10.0.0.1 to 224.0.1.0, protocol 17, ident 0, no flags, TTL 1.
+abbrev pub least : List ℕ
+least = 69 ∷ 0 ∷ 0 ∷ 20 ∷ 0 ∷ 0 ∷ 0 ∷ 0 ∷ 1 ∷ 17 ∷ 206 ∷ 216 ∷ 10 ∷ 0 ∷ 0 ∷ 1 ∷ 224 ∷ 0 ∷ 1 ∷ 0 ∷ []
 
 -- with the number of 16 bits n at i
 abbrev pub with_two : List ℕ → ℕ → ℕ → List ℕ

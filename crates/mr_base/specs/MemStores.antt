@@ -1,5 +1,5 @@
 -- The map of a store in memory.
-use Rattle.std.specs.Prelude.{ℕ, Bool, nat_eq, Option, Some, None, List, [], ◌∷◌, if◌then◌else◌}
+use Rattle.std.specs.Prelude.{ℕ, ◌≡◌, ◌<◌, length, slice_index_or, Bool, nat_eq, Option, Some, None, List, [], ◌∷◌, if◌then◌else◌}
 use Rattle.std.specs.Cmp.Lexicographic.{pointwise}
 use Rattle.std.specs.Global.{Vec}
 
@@ -10,4 +10,10 @@ bytes_eq = pointwise nat_eq
 -- the bytes of the first file of this name
 abbrev pub bytes_of : List (List ℕ × Vec ℕ) → List ℕ → Option (List ℕ)
 bytes_of [] name = None
-bytes_of (file ∷ files) name = if bytes_eq file.0 name then Some file.1.items else bytes_of files name
+bytes_of (file ∷ files) name =
+    if bytes_eq file.0 name then Some file.1.items else bytes_of files name
+
+-- A file of this name stands at i.
+abbrev pub IsPlaceOf : List ℕ → List (List ℕ × Vec ℕ) → ℕ → Type 0
+IsPlaceOf name files i =
+    (i < length files) × ((d : List ℕ × Vec ℕ) → (slice_index_or files i d).0 ≡ name)

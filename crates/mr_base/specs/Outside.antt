@@ -1,6 +1,6 @@
 -- What the traits of the outside say of their counts, and of what they took and gave. A `None` stands
--- for an object that does not tell: then nothing is said of its content, and it never begins to tell.
-use Rattle.std.specs.Prelude.{ℕ, ◌+◌, ◌-◌, ◌^◌, ◌<◌, ◌≡◌, ◌≢◌, ◌⊎◌, Bool, true, false, Option, Some, None, List, [], ◌∷◌, ◌++◌, take, Result, Ok, Err, IfSome}
+-- for an object that does not tell: nothing is said of its content.
+use Rattle.std.specs.Prelude.{ℕ, ◌-◌, ◌^◌, ◌<◌, ◌≡◌, ◌≢◌, ◌⊎◌, Bool, true, false, Option, Some, None, List, [], ◌∷◌, ◌++◌, take, Result, Ok, Err, IfSome}
 use Rattle.mr_base.specs.declared.read_error.ReadError.{ReadError}
 use Rattle.mr_base.specs.declared.read_error.ReadError.TheVariants as read_error
 
@@ -8,7 +8,7 @@ use Rattle.mr_base.specs.declared.read_error.ReadError.TheVariants as read_error
 abbrev pub Rose : ℕ → ℕ → Type 0
 Rose old new = (old < new) ⊎ (new ≡ 2 ^ 64 - 1)
 
--- What a store keeps of its last call: whether it was a read or a write, the name, and whether it failed.
+-- What a store keeps of its last call: a read or a write, the name, and whether it failed.
 pub record LastCall : Type 0 where
   pub is_read : Bool
   pub name : List ℕ

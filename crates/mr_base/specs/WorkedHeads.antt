@@ -50,8 +50,8 @@ abbrev pub from_loopback : List ℕ
 from_loopback = 69 ∷ 0 ∷ 0 ∷ 28 ∷ 0 ∷ 1 ∷ 0 ∷ 0 ∷ 2 ∷ 17 ∷ 73 ∷ 205 ∷ 127 ∷ 0 ∷ 0 ∷ 1 ∷ 239 ∷ 1 ∷ 1 ∷ 1
     ∷ 3 ∷ 232 ∷ 3 ∷ 233 ∷ 0 ∷ 8 ∷ 0 ∷ 0 ∷ []
 
--- A head of 24 bytes with the option of RFC 2113, TTL 5: 46000020 00074000 0511e6b6 0a000009 ef010101 94040000,
--- and 8 bytes more.
+-- A head of 24 bytes with the option of RFC 2113 and TTL 5, and 8 bytes more:
+-- 46000020 00074000 0511e6b6 0a000009 ef010101 94040000, and then 03e803e9 00080000.
 abbrev pub with_option : List ℕ
 with_option = 70 ∷ 0 ∷ 0 ∷ 32 ∷ 0 ∷ 7 ∷ 64 ∷ 0 ∷ 5 ∷ 17 ∷ 230 ∷ 182 ∷ 10 ∷ 0 ∷ 0 ∷ 9 ∷ 239 ∷ 1 ∷ 1 ∷ 1
     ∷ 148 ∷ 4 ∷ 0 ∷ 0 ∷ 3 ∷ 232 ∷ 3 ∷ 233 ∷ 0 ∷ 8 ∷ 0 ∷ 0 ∷ []

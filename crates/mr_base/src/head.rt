@@ -1,5 +1,5 @@
 ghost use Rattle.std.specs.Prelude.{◌≡◌, true};
-ghost use Rattle.mr_base.specs.Heads.{is_head};
+ghost use Rattle.mr_base.specs.Heads.{is_head, least};
 
 use crate::few::Few;
 use crate::numbers::Addr;
@@ -27,6 +27,8 @@ const LEAST: [u8; 20] = [
 ];
 
 impl Default for Head {
+    ghost is_default = { λ head. head.bytes ≡ least };
+
     /// The head of 20 bytes from 10.0.0.1 to 224.0.1.0, protocol 17, TTL 1.
     #[tactic(auto, unfolding(crate::specs::Heads::is_head, crate::specs::Heads::cause_in))]
     fn default() -> Self {

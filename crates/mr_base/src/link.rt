@@ -18,8 +18,10 @@ pub trait Link {
     /// byte is to come or `space` is empty. After `Failed` nothing is said of the bytes to come.
     fn get(&mut self, space: &mut [u8]) -> Result<usize, Failed>
         ensures at_most { IfOk result (λ n. n ≤ length space.old) }
-        ensures moved { IfOk result (λ n. Gives (to_come self.old) (take n space.new) (to_come self.new)) }
-        ensures end { result ≡ Ok 0 → (space.old ≡ []) ⊎ IfSome (to_come self.old) (λ bytes. bytes ≡ []) }
+        ensures moved { IfOk result (λ n.
+            Gives (to_come self.old) (take n space.new) (to_come self.new)) }
+        ensures end { result ≡ Ok 0
+            → (space.old ≡ []) ⊎ IfSome (to_come self.old) (λ bytes. bytes ≡ []) }
         ensures kept { taken self.new ≡ taken self.old }
         ensures count { faults self.old ≤ faults self.new }
         ensures fault { OnErr result (Rose (faults self.old) (faults self.new)) };

@@ -12,17 +12,20 @@ pub struct MemDoor {
     waiting: Vec<MemLink>,
     out: bool,
     given_back: Vec<MemLink>,
-    ghost room: { length given_back.items + ((if out then 1 else 0) + length waiting.items) ≤ vec_capacity given_back },
+    ghost room: { length given_back.items + ((if out then 1 else 0) + length waiting.items)
+        ≤ vec_capacity given_back },
 }
 
 impl MemDoor {
     /// A door by which these links are to come, with room for all of them once they are given back.
-    /// `fails` has the numbers, from 1, of the calls of `next` that are to fail; for now it has to be
-    /// empty.
+    /// Without memory for that room the answer is `Memory`. `fails` has the numbers, from 1, of the calls
+    /// of `next` that are to fail; for now it has to be empty.
     pub fn with(alloc: Global, links: Vec<MemLink>, fails: Vec<u64>) -> Result<Self, Memory>
         requires { fails.items ≡ [] }
-        ensures to_come { IfOk result (λ door. ⟦<MemDoor as Door>⟧.to_come door ≡ Some links.items) }
-        ensures given_back { IfOk result (λ door. ⟦<MemDoor as Door>⟧.given_back door ≡ Some []) }
+        ensures to_come { IfOk result (λ door.
+            ⟦<MemDoor as Door>⟧.to_come door ≡ Some links.items) }
+        ensures given_back { IfOk result (λ door.
+            ⟦<MemDoor as Door>⟧.given_back door ≡ Some []) }
         ensures none_out { IfOk result (λ door. ⟦<MemDoor as Door>⟧.is_out door ≡ false) }
         ensures faults { IfOk result (λ door. ⟦<MemDoor as Door>⟧.faults door ≡ 0) }
     {

@@ -45,7 +45,8 @@ impl MemLink {
 
     /// The next bytes to come, at most the piece and this many.
     fn next_bytes(&self, most: usize) -> &[u8]
-        ensures { result.now ≡ take (min most self.now.piece) (drop self.now.at self.now.input.items) }
+        ensures { result.now
+            ≡ take (min most self.now.piece) (drop self.now.at self.now.input.items) }
     {
         let (_, to_come) = self.input.split_at(self.at);
         let n = most.min(self.piece as usize).min(to_come.len());
@@ -74,8 +75,10 @@ impl Link for MemLink {
     /// Appends all bytes to those taken, or none where memory ran out.
     fn put(&mut self, bytes: &[u8]) -> Result<(), Failed>
         ensures all { OnOk result
-            (Takes (⟦<MemLink as Link>⟧.taken self.old) bytes.now (⟦<MemLink as Link>⟧.taken self.new)) }
-        ensures none { OnErr result (⟦<MemLink as Link>⟧.taken self.new ≡ ⟦<MemLink as Link>⟧.taken self.old) }
+            (Takes (⟦<MemLink as Link>⟧.taken self.old) bytes.now
+            (⟦<MemLink as Link>⟧.taken self.new)) }
+        ensures none { OnErr result
+            (⟦<MemLink as Link>⟧.taken self.new ≡ ⟦<MemLink as Link>⟧.taken self.old) }
         ensures kept { ⟦<MemLink as Link>⟧.to_come self.new ≡ ⟦<MemLink as Link>⟧.to_come self.old }
         ensures count { ⟦<MemLink as Link>⟧.faults self.old ≤ ⟦<MemLink as Link>⟧.faults self.new }
         ensures fault { OnErr result

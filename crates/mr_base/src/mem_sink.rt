@@ -44,8 +44,10 @@ impl Sink for MemSink {
     /// Appends all bytes to those taken, or none where memory ran out.
     fn put(&mut self, bytes: &[u8]) -> Result<(), Failed>
         ensures all { OnOk result
-            (Takes (⟦<MemSink as Sink>⟧.taken self.old) bytes.now (⟦<MemSink as Sink>⟧.taken self.new)) }
-        ensures none { OnErr result (⟦<MemSink as Sink>⟧.taken self.new ≡ ⟦<MemSink as Sink>⟧.taken self.old) }
+            (Takes (⟦<MemSink as Sink>⟧.taken self.old) bytes.now
+            (⟦<MemSink as Sink>⟧.taken self.new)) }
+        ensures none { OnErr result
+            (⟦<MemSink as Sink>⟧.taken self.new ≡ ⟦<MemSink as Sink>⟧.taken self.old) }
         ensures count { ⟦<MemSink as Sink>⟧.faults self.old ≤ ⟦<MemSink as Sink>⟧.faults self.new }
         ensures fault { OnErr result
             (Rose (⟦<MemSink as Sink>⟧.faults self.old) (⟦<MemSink as Sink>⟧.faults self.new)) }

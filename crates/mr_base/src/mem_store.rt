@@ -1,6 +1,6 @@
-ghost use Rattle.std.specs.Prelude.{◌≡◌, ◌≢◌, ◌≤◌, true, false, Some, None, IfSome, MatchOption, OnOk, OnErr, AllPairs, [], length};
+ghost use Rattle.std.specs.Prelude.{◌≡◌, ◌≢◌, ◌≤◌, true, false, Some, None, IsNone, IfSome, MatchOption, OnOk, OnErr, AllPairs, [], length};
 ghost use Rattle.mr_base.specs.Outside.{Rose, no_call, is_failed, HasFile, AllStay, OthersStay};
-ghost use Rattle.mr_base.specs.MemStores.{bytes_of};
+ghost use Rattle.mr_base.specs.MemStores.{bytes_of, IsPlaceOf};
 
 use crate::file_name::FileName;
 use crate::numbers::Failed;
@@ -61,17 +61,37 @@ impl MemStore {
         None
     }
 
+    /// The index of a file of this name.
+    fn place(&self, name: &str) -> Option<usize>
+        ensures found { IfSome result (IsPlaceOf name.now self.now.files.items) }
+        ensures absent { IsNone result → bytes_of self.now.files.items name.now ≡ None }
+    {
+        let files = self.files.as_slice();
+        for i in 0..files.len() {
+            if files[i].0.as_str() == name {
+                return Some(i);
+            }
+        }
+        None
+    }
+
     /// Sets the bytes of a file, or changes nothing where memory ran out.
     fn set(&mut self, name: &str, bytes: &[u8]) -> Result<(), AllocError>
         requires { length name.now ≤ 255 }
-        ensures bytes { OnOk result (HasFile (⟦<MemStore as Store>⟧.told self.new) name.now bytes.now) }
-        ensures others { OthersStay name.now (⟦<MemStore as Store>⟧.told self.old) (⟦<MemStore as Store>⟧.told self.new) }
+        ensures bytes { OnOk result
+            (HasFile (⟦<MemStore as Store>⟧.told self.new) name.now bytes.now) }
+        ensures others { OthersStay name.now
+            (⟦<MemStore as Store>⟧.told self.old) (⟦<MemStore as Store>⟧.told self.new) }
         ensures none { OnErr result (self.new.files.items ≡ self.old.files.items) }
         ensures faults { self.new.faults ≡ self.old.faults }
     {
         let copy = Vec::from_slice(self.alloc, bytes)?;
-        // The newest file of a name stands first, so it is the one that is found.
+        let older = self.place(name);
+        // The growth comes first, so that nothing has changed where it is refused.
         self.files.insert(0, (FileName::new(name), copy))?;
+        if let Some(i) = older {
+            self.files.remove(i + 1);
+        }
         Ok(())
     }
 
@@ -79,7 +99,8 @@ impl MemStore {
     fn keep(&mut self, is_read: bool, name: &str, failed: bool)
         requires { length name.now ≤ 255 }
         ensures files { self.new.files ≡ self.old.files }
-        ensures last { self.new.last ≡ record { is_read = is_read; name = name.now; failed = failed } }
+        ensures last { self.new.last
+            ≡ record { is_read = is_read; name = name.now; failed = failed } }
         ensures count { self.old.faults ≤ self.new.faults }
         ensures fault { failed ≡ true → Rose self.old.faults self.new.faults }
     {
@@ -102,7 +123,8 @@ impl Store for MemStore {
 
     ghost faults = { λ s. s.faults };
 
-    ghost last = { λ s. record { is_read = s.last.is_read; name = s.last.name; failed = s.last.failed } };
+    ghost last = { λ s.
+        record { is_read = s.last.is_read; name = s.last.name; failed = s.last.failed } };
 
     fn read(&mut self, alloc: Global, name: &str) -> Result<Vec<u8>, ReadError> {
         let Some(bytes) = self.bytes(name) else {
@@ -124,10 +146,14 @@ impl Store for MemStore {
     /// Sets the bytes of a file, or changes no file where memory ran out.
     fn write(&mut self, name: &str, bytes: &[u8]) -> Result<(), Failed>
         requires { length name.now ≤ 255 }
-        ensures bytes { OnOk result (HasFile (⟦<MemStore as Store>⟧.told self.new) name.now bytes.now) }
-        ensures others { OthersStay name.now (⟦<MemStore as Store>⟧.told self.old) (⟦<MemStore as Store>⟧.told self.new) }
-        ensures none { OnErr result (AllStay (⟦<MemStore as Store>⟧.told self.old) (⟦<MemStore as Store>⟧.told self.new)) }
-        ensures count { ⟦<MemStore as Store>⟧.faults self.old ≤ ⟦<MemStore as Store>⟧.faults self.new }
+        ensures bytes { OnOk result
+            (HasFile (⟦<MemStore as Store>⟧.told self.new) name.now bytes.now) }
+        ensures others { OthersStay name.now
+            (⟦<MemStore as Store>⟧.told self.old) (⟦<MemStore as Store>⟧.told self.new) }
+        ensures none { OnErr result
+            (AllStay (⟦<MemStore as Store>⟧.told self.old) (⟦<MemStore as Store>⟧.told self.new)) }
+        ensures count { ⟦<MemStore as Store>⟧.faults self.old
+            ≤ ⟦<MemStore as Store>⟧.faults self.new }
         ensures fault { OnErr result
             (Rose (⟦<MemStore as Store>⟧.faults self.old) (⟦<MemStore as Store>⟧.faults self.new)) }
         ensures facts { ⟦<MemStore as Store>⟧.last self.new

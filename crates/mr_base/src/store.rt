@@ -22,11 +22,14 @@ pub trait Store {
         requires named { 1 ≤ length name.now }
         requires fits { length name.now ≤ 255 }
         ensures bytes { IfOk result (λ v. HasFile (told self.old) name.now v.items) }
-        ensures absent { IfSome (told self.old) (λ files. files name.now ≡ None → IsErrOf result read_error.Failed) }
+        ensures absent { IfSome (told self.old) (λ files.
+            files name.now ≡ None → IsErrOf result read_error.Failed) }
         ensures stays { AllStay (told self.old) (told self.new) }
         ensures count { faults self.old ≤ faults self.new }
-        ensures fault { IsErrOf result read_error.Failed → Rose (faults self.old) (faults self.new) }
-        ensures facts { last self.new ≡ record { is_read = true; name = name.now; failed = is_failed_read result } };
+        ensures fault { IsErrOf result read_error.Failed
+            → Rose (faults self.old) (faults self.new) }
+        ensures facts { last self.new
+            ≡ record { is_read = true; name = name.now; failed = is_failed_read result } };
 
     /// Sets the bytes of a file, which may be new. After `Failed` its bytes may be anything.
     fn write(&mut self, name: &str, bytes: &[u8]) -> Result<(), Failed>
@@ -36,5 +39,6 @@ pub trait Store {
         ensures others { OthersStay name.now (told self.old) (told self.new) }
         ensures count { faults self.old ≤ faults self.new }
         ensures fault { OnErr result (Rose (faults self.old) (faults self.new)) }
-        ensures facts { last self.new ≡ record { is_read = false; name = name.now; failed = is_failed result } };
+        ensures facts { last self.new
+            ≡ record { is_read = false; name = name.now; failed = is_failed result } };
 }

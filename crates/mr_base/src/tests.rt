@@ -1,5 +1,38 @@
+ghost use Rattle.std.specs.Prelude.{◌≡◌, ◌≤◌, false, length};
+
 use crate::*;
+use std::alloc::Global;
 use std::test::Fail;
+
+/// Reads a store through its bound.
+fn content<S: Store>(store: &mut S, alloc: Global, name: &str) -> Result<Vec<u8>, ReadError>
+    requires named { 1 ≤ length name.now }
+    requires fits { length name.now ≤ 255 }
+{
+    store.read(alloc, name)
+}
+
+/// Puts into a sink through its bound.
+fn sent<K: Sink>(sink: &mut K, bytes: &[u8]) -> Result<(), Failed> {
+    sink.put(bytes)
+}
+
+/// Takes a link of a door, gets from it, puts to it and gives it back, all through their bounds.
+fn served<D: Door>(door: &mut D, space: &mut [u8], bytes: &[u8]) -> Result<usize, Failed>
+    requires { D.is_out door.old ≡ false }
+    ensures { D.is_out door.new ≡ false }
+{
+    match door.next()? {
+        None => Ok(0),
+        Some(mut link) => {
+            let number = link.get(space);
+            let put = link.put(bytes);
+            door.back(link);
+            put?;
+            number
+        }
+    }
+}
 
 /// Calls a clock through its bound.
 fn reading<C: Clock>(clock: &mut C) -> u64 {
@@ -46,10 +79,13 @@ fn store(rt: HostRuntime) -> Result<(), Fail> {
     files.push((FileName::new("a"), vec![in alloc; 1_u8, 2]?))?;
     let mut store = MemStore::with(alloc, files, Vec::new(alloc));
     assert_eq!(rt;
-        store.read(alloc, "a").ok().ok_or("a")?.as_slice(),
+        content(&mut store, alloc, "a").ok().ok_or("a")?.as_slice(),
         [1_u8, 2].as_slice()
     );
-    assert_eq!(rt; store.read(alloc, "b").err(), Some(ReadError::Failed));
+    assert_eq!(rt;
+        content(&mut store, alloc, "b").err(),
+        Some(ReadError::Failed)
+    );
     assert_eq!(rt; store.write("b", b"new".as_slice()), Ok(()));
     assert_eq!(rt; store.write("a", b"".as_slice()), Ok(()));
     assert_eq!(rt; store.bytes("b"), Some(b"new".as_slice()));
@@ -62,14 +98,29 @@ fn store(rt: HostRuntime) -> Result<(), Fail> {
 fn sink(rt: HostRuntime) -> Result<(), Fail> {
     let alloc = rt.alloc();
     let mut sink = MemSink::with(alloc, Vec::new(alloc));
-    assert_eq!(rt; sink.put(b"legal".as_slice()), Ok(()));
+    assert_eq!(rt; sent(&mut sink, b"legal".as_slice()), Ok(()));
     assert_eq!(rt; sink.put(b"\n".as_slice()), Ok(()));
     assert_eq!(rt; sink.taken(), b"legal\n".as_slice());
     Ok(())
 }
 
 #[test]
-fn door_and_links(rt: HostRuntime) -> Result<(), Fail> {
+fn link(rt: HostRuntime) -> Result<(), Fail> {
+    let alloc = rt.alloc();
+    let input = Vec::from_slice(alloc, b"list".as_slice())?;
+    let mut link = MemLink::with(alloc, input, 3, Vec::new(alloc));
+    let mut space = [0; 8];
+    for want in [3, 1, 0] {
+        assert_eq!(rt; link.get(&mut space), Ok(want));
+    }
+    assert_eq!(rt; &space[..3], b"tis".as_slice());
+    assert_eq!(rt; link.put(b"ok\n".as_slice()), Ok(()));
+    assert_eq!(rt; link.taken(), b"ok\n".as_slice());
+    Ok(())
+}
+
+#[test]
+fn door(rt: HostRuntime) -> Result<(), Fail> {
     let alloc = rt.alloc();
     let input = Vec::from_slice(alloc, b"list".as_slice())?;
     let mut links = Vec::new(alloc);
@@ -77,14 +128,9 @@ fn door_and_links(rt: HostRuntime) -> Result<(), Fail> {
     let mut door = MemDoor::with(alloc, links, Vec::new(alloc))
         .ok()
         .ok_or("door")?;
-    let mut link = door.next().ok().ok_or("next")?.ok_or("link")?;
     let mut space = [0; 8];
-    assert_eq!(rt; link.get(&mut space), Ok(3));
+    assert_eq!(rt; served(&mut door, &mut space, b"ok\n".as_slice()), Ok(3));
     assert_eq!(rt; &space[..3], b"lis".as_slice());
-    assert_eq!(rt; link.get(&mut space), Ok(1));
-    assert_eq!(rt; link.get(&mut space), Ok(0));
-    assert_eq!(rt; link.put(b"ok\n".as_slice()), Ok(()));
-    door.back(link);
     assert_eq!(rt; door.next().map(|link| link.is_none()), Ok(true));
     assert_eq!(rt; door.given_back().len(), 1);
     assert_eq!(rt; door.given_back()[0].taken(), b"ok\n".as_slice());

@@ -9,7 +9,7 @@ parts zero ys = refl
 parts (suc m) [] = refl
 parts (suc m) (y ∷ ys) = ap (λ zs. y ∷ zs) (parts m ys)
 
--- the first bytes to come, put before other bytes, and the bytes after them are all that were to come
+-- the first bytes to come, put before other bytes, and those after them are all that were to come
 moved : (m at : ℕ) (xs bytes got other : List ℕ) → bytes ≡ take m (drop at xs) → got ≡ bytes
     → drop at xs ≡ take (length bytes) (got ++ other) ++ drop (at + length bytes) xs
 moved m at xs bytes got other is same =
@@ -19,5 +19,6 @@ pub returns-clause-moved : goal.returns-clause-moved
 returns-clause-moved c =
     let link = c.args.self.now in
     let bytes = c.next_bytes-bytes.result.now in
-    moved _ link.at link.input.items bytes c.copy_from_slice.new.self (drop (length bytes) c.args.space.now)
+    moved _ link.at link.input.items bytes c.copy_from_slice.new.self
+    (drop (length bytes) c.args.space.now)
     c.next_bytes-bytes.ensures c.copy_from_slice.ensures.after
