@@ -3,7 +3,8 @@ use std::rt::Files;
 use std::{fs, io, str};
 
 /// What is built of scenarios.
-const BUILT: &str = "'scenario 1', then 'device NAME ADDRESS' and one 'daemon admin', then phases: 'phase' and 'daemon 1 init', which is good once";
+const BUILT: &str =
+    "'scenario 1', then 'device NAME ADDRESS' and one 'daemon admin', then phases: 'phase' and 'daemon 1 init', which is good once";
 
 /// The text of a line of a file, counted from 1; a line that is no text is shown as '..'.
 fn line_text(bytes: &[u8], line: u32) -> &str {
@@ -30,7 +31,9 @@ pub fn explain<R: Files + AllocGlobal + Eprint>(
     match status {
         Status::Good => Ok(()),
         Status::Usage => {
-            eprintln!(rt; "usage: replay SCENARIO (a file of the folder, by a name of 1 to 255 bytes that does not begin with 'out-')")
+            eprintln!(rt;
+                "usage: replay SCENARIO (a file of the folder, by a name of 1 to 255 bytes that does not begin with 'out-')"
+            )
         }
         Status::NotBuilt { line } => match words {
             [_, file, ..] => explain_line(rt, file.as_str(), *line),

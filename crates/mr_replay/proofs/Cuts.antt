@@ -1,7 +1,7 @@
 -- Where the first separator stands, a text is cut.
-use Rattle.std.proofs.Common.{◌≡◌, ◌≢◌, ℕ, zero, suc, ◌+◌, ◌<◌, ◌≤◌, ◌==◌, ◌||◌, Bool, true, false, cond, List, [], ◌∷◌, length, take, drop, slice_index, refl, ap, ◌∙◌, sym, arith, add-one, eq-eqb, ne_eqb, eq-or-lt_of_le, take_all, drop_of_length-le, subst, inl, inr, ◌⊎◌}
+use Rattle.std.proofs.Common.{◌≡◌, ◌≢◌, ℕ, zero, suc, ◌+◌, ◌<◌, ◌≤◌, ◌==◌, true, false, List, [], ◌∷◌, length, take, drop, slice_index, refl, ap, ◌∙◌, sym, arith, add-one, eq-eqb, ne_eqb, eq-or-lt_of_le, take_all, drop_of_length-le, subst, inl, inr}
 use Rattle.mr_replay.specs.Forms.{before_dot, parts_behind, parts_of}
-use Rattle.mr_replay.specs.Words.{is_blank, lines_of, onto_first, front_word, words_behind, with_word, words_of}
+use Rattle.mr_replay.specs.Words.{is_blank, lines_of, front_word, words_behind, with_word, words_of}
 
 -- A line ends at the first line feed.
 pub lines_at : (bs : List ℕ) (i : ℕ) → i < length bs → ((k : ℕ) → k < i → slice_index bs k ≢ 10) → slice_index bs i ≡ 10 →
@@ -44,11 +44,11 @@ pub split_at_end : (bs : List ℕ) (i : ℕ) → 0 < length bs → i ≤ length 
     (i < length bs → slice_index bs i ≡ 10) → lines_of bs ≡ take i bs ∷ lines_of (drop (i + 1) bs)
 split_at_end bs i some within clean stops =
     elim (eq-or-lt_of_le within) [
-      inl same ↦
-        let all : length bs ≤ i = omega arith in
-        let over : length bs ≤ i + 1 = omega arith in
-        rw (take_all i bs all, drop_of_length-le bs over) (lines_whole bs some (λ k h. clean k (omega arith)))
-    | inr below ↦ rw add-one (lines_at bs i below clean (stops below))
+      | inl same ↦
+          let all : length bs ≤ i = omega arith in
+          let over : length bs ≤ i + 1 = omega arith in
+          rw (take_all i bs all, drop_of_length-le bs over) (lines_whole bs some (λ k h. clean k (omega arith)))
+      | inr below ↦ rw add-one (lines_at bs i below clean (stops below))
     ]
 
 -- where no word stands: its end is 0

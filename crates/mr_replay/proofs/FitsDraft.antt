@@ -1,10 +1,10 @@
 -- A draft keeps within its own limits with each line.
-use Rattle.std.proofs.Common.{◌≡◌, ℕ, ◌≤◌, ◌<◌, ◌&&◌, Bool, true, Option, Some, None, List, [], ◌∷◌, ◌++◌, length, refl, arith, cond, subst}
+use Rattle.std.proofs.Common.{◌≡◌, ℕ, ◌≤◌, ◌<◌, ◌&&◌, true, Option, Some, None, List, [], ◌∷◌, ◌++◌, length, refl, arith, subst}
 use Rattle.std.proofs.lemmas.Bool.{and_parts, ltb-true, leb-true}
 use Rattle.std.proofs.lemmas.List.{length-append, length-map}
 use Rattle.std.proofs.lemmas.List.Sums.{sum_by_push}
 use Rattle.std.proofs.lemmas.Result.{IfOk-at_ok}
-use Rattle.std.specs.List.{AllByRecursion, fold}
+use Rattle.std.specs.List.{AllByRecursion}
 use Rattle.std.specs.Prelude.{sum_by, IfSome, IfOk, nat_lt, nat_le, not, is_none, option_and_then, option_to_list, bytes_eq, codes, map}
 use Rattle.mr_model.specs.Legal.{IsDaemon}
 use Rattle.mr_replay.specs.declared.draft.Draft.{Draft}
@@ -14,7 +14,7 @@ use Rattle.mr_replay.specs.declared.scenario.Scenario.{Scenario}
 use Rattle.mr_replay.specs.declared.scenario.Script.{Script}
 use Rattle.mr_replay.specs.declared.scenario.ScriptLine.{ScriptLine}
 use Rattle.mr_replay.specs.Fits.{Fits}
-use Rattle.mr_replay.specs.Forms.{number_of, is_numeral, digit_on, address_of, is_device_name, is_taken}
+use Rattle.mr_replay.specs.Forms.{number_of, address_of, is_device_name, is_taken}
 use Rattle.mr_replay.specs.Laws.{SpelledFits}
 use Rattle.mr_replay.specs.Spelled.{when, header_line, with_device, device_line, daemon_head, script_of, with_script, with_line, asked_line, script_line, daemon_line_in, phases_so_far, with_phase, phase_line, line_by_word, line_of, next_line, line_gives, draft_line, draft_from, empty_draft, is_admin_kind, limits_of, whole}
 use Rattle.mr_replay.specs.Words.{lines_of, without_return, words_of}

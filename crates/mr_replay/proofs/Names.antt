@@ -1,10 +1,10 @@
 -- The name of a device is text.
-use Rattle.std.proofs.Common.{◌≡◌, ℕ, zero, suc, ◌<◌, ◌≤◌, ◌&&◌, ◌||◌, ◌==◌, Bool, true, false, not, List, [], ◌∷◌, length, get_or, arith, IsAscii, IsUtf8, bytes_eq, codes, nat_le, nat_lt, refl, lit<}
+use Rattle.std.proofs.Common.{◌≡◌, ℕ, zero, suc, ◌<◌, true, List, [], ◌∷◌, arith, IsAscii, IsUtf8, lit<}
 use Rattle.std.specs.List.{list_all}
 use Rattle.std.proofs.lemmas.Bool.{and_parts}
 use Rattle.std.proofs.lemmas.Bool.Decides.{nat_tests}
 use Rattle.std.proofs.lemmas.Str.{IsUtf8-from_ascii}
-use Rattle.mr_replay.specs.Forms.{is_letter, is_digit, is_name_byte, begins_name, is_device_name}
+use Rattle.mr_replay.specs.Forms.{is_name_byte, is_device_name}
 
 byte_low : (b : ℕ) → is_name_byte b ≡ true → b < 128
 byte_low b h = grind (arith, nat_tests)

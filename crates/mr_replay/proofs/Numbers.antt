@@ -1,5 +1,5 @@
 -- Numbers that grow digit by digit.
-use Rattle.std.proofs.Common.{◌≡◌, ℕ, suc, ◌+◌, ◌*◌, ◌-◌, ◌<◌, ◌≤◌, List, [], ◌∷◌, fold, drop, length, get_or, drop-cons, arith, le_refl}
+use Rattle.std.proofs.Common.{◌≡◌, ℕ, suc, ◌<◌, ◌≤◌, List, [], ◌∷◌, fold, drop, length, get_or, drop-cons, arith, le_refl}
 use Rattle.mr_replay.specs.Forms.{digit_on}
 
 -- what is read so far never shrinks

@@ -147,7 +147,9 @@ device_of d = record { addr = d.addr }
 -- The limits are the defaults: 1,024 entries, 10 waiting entries, 65,536 control entries. There is one lane, without packets.
 abbrev pub limits_of : Draft → Limits
 limits_of d = record {
-  entries = 1024; unresolved = 10; controls = 65536;
+  entries = 1024;
+  unresolved = 10;
+  controls = 65536;
   phases = d.opened;
   packets = 0 ∷ [];
   admins = map is_admin_kind d.daemons;

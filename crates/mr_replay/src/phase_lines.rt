@@ -46,12 +46,7 @@ fn push_line(draft: &mut Draft, phase: Phase, line: ScriptLine) -> Result<(), Al
 }
 
 /// `daemon D OP` in a phase: the words behind the first.
-fn script_line(
-    line: u32,
-    draft: &mut Draft,
-    phase: Phase,
-    words: &[u8],
-) -> Result<(), Refusal>
+fn script_line(line: u32, draft: &mut Draft, phase: Phase, words: &[u8]) -> Result<(), Refusal>
     ensures { Steps result draft.new (script_line line draft.old phase (words_of words.now)) }
 {
     let (number, rest) = next_word(words).ok_or(Refusal::NotBuilt)?;

@@ -6,7 +6,6 @@ ghost use Rattle.mr_replay.specs.Endings.{is_file_word, file_asked, RunsTo, Repl
 ghost use Rattle.mr_replay.specs.Played.{outcome_of};
 ghost use Rattle.mr_replay.specs.declared.status.Status.TheVariants as status;
 
-
 use crate::playing::play;
 use crate::reading::read_scenario;
 use crate::status::Status;

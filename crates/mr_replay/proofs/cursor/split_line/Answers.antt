@@ -1,4 +1,3 @@
-use Rattle.std.proofs.Common.{◌≡◌, ◌∙◌, ◌<◌, ◌⊎◌, ap, arith, length, ⊎_elim, add-one}
 use Rattle.mr_replay.proofs.Cuts.{split_at_end}
 use Rattle.mr_replay.proofs.cursor.split_line.Goals as goal
 

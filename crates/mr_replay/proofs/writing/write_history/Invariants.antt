@@ -1,6 +1,5 @@
-use Rattle.std.proofs.Common.{◌≡◌, ◌+◌, ◌++◌, drop, codes, string_bytes, length}
-use Rattle.std.specs.List.{AllByRecursion}
-use Rattle.mr_replay.specs.Built.{IsBuilt, AllBuilt}
+use Rattle.std.proofs.Common.{◌≡◌, ◌+◌, ◌++◌, drop, codes, string_bytes}
+use Rattle.mr_replay.specs.Built.{AllBuilt}
 use Rattle.mr_replay.specs.Text.{entries_text}
 use Rattle.mr_replay.proofs.writing.write_history.Given as goal
 
