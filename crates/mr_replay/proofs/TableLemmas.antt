@@ -1,6 +1,5 @@
 -- Steps through the vifs and the entries.
-use Rattle.std.proofs.Common.{◌≡◌, ℕ, zero, suc, ◌+◌, ◌<◌, Bool, true, false, max, Option, Some, None, List, [], ◌∷◌, ◌++◌, length, take, drop, get_or, slice_set, drop-cons, refl, ap, ◌∙◌, sym, arith}
-use Rattle.std.proofs.Math.Nat.{max_comm}
+use Rattle.std.proofs.Common.{◌≡◌, ℕ, suc, ◌<◌, Bool, true, Option, Some, None, List, [], ◌∷◌, ◌++◌, length, take, drop, get_or, slice_set, drop-cons, ◌∙◌, arith}
 use Rattle.std.proofs.lemmas.Grind.{common_steps}
 use Rattle.std.proofs.lemmas.List.{set_split}
 use Rattle.std.specs.List.{AllByRecursion}

@@ -126,7 +126,7 @@ fn comes_by_parent(vifs: &[VifRecord], r: &Route, dev: u32) -> bool
     }
 }
 
-/// Whether a route is for any origin, and its parent's proxy entry reaches the vif of the packet's device.
+/// Whether a route is for any origin, and the proxy entry of its parent reaches the packet's vif.
 fn passes_proxied(routes: &[Route], r: &Route, vif: Option<u8>) -> bool
     ensures { result ≡ passes_proxied routes.now r.now vif }
 {
@@ -155,7 +155,8 @@ fn sends_on(r: &Route, vif: Option<u8>, ttl: u8, i: u8) -> bool
 /// The vifs on which a route sends what came in on `vif`.
 fn outs_of(vifs: &[VifRecord], r: &Route, vif: Option<u8>, ttl: u8) -> Mask
     requires { AllByRecursion (λ v. v.vif < 32) vifs.now }
-    ensures { result.0 ≡ fold (λ m v. bit_or m (2 ^ v.vif)) 0 (filter (λ v. sends_on r.now vif ttl v.vif) vifs.now) }
+    ensures { result.0 ≡ fold (λ m v. bit_or m (2 ^ v.vif)) 0
+        (filter (λ v. sends_on r.now vif ttl v.vif) vifs.now) }
 {
     let mut mask = 0u32;
     let mut rest = vifs;

@@ -1,6 +1,6 @@
 //! The entries as a list of routes, newest first, and what decides over them.
 
-ghost use Rattle.std.specs.Prelude.{◌≡◌, ◌<◌, None};
+ghost use Rattle.std.specs.Prelude.{◌≡◌, ◌<◌, None, IfNone};
 ghost use Rattle.std.specs.List.{list_any};
 ghost use Rattle.mr_model.specs.RouteList.{ttl_of, is_entry, is_named, threshold, thresholds_from, is_group, add_route_error, new_route, changed_route, change_first};
 
@@ -61,7 +61,8 @@ pub fn has_entry(routes: &[Route], src: Addr, dst: Addr) -> bool
 
 /// Why an entry is neither added nor changed, if it is not.
 pub fn add_route_error(most: u32, routes: &[Route], c: &MfcCtl) -> Option<Errno>
-    ensures { result ≡ add_route_error most routes.now c.now None }
+    ensures error { result ≡ add_route_error most routes.now c.now None }
+    ensures parent { IfNone result (c.now.parent < 32) }
 {
     if 32 <= c.parent {
         return Some(Errno::TooManyVifs);
@@ -109,7 +110,8 @@ pub fn changed_route(vifs: &[VifRecord], c: &MfcCtl, fixed: bool, r: &Route) -> 
 /// Changes the first entry that a call names, if there is one.
 pub fn change_first(routes: &mut [Route], vifs: &[VifRecord], c: &MfcCtl, fixed: bool)
     requires { c.now.parent < 32 }
-    ensures { routes.new ≡ change_first (is_named c.now.src c.now.dst None) (changed_route vifs.now c.now fixed) routes.old }
+    ensures { routes.new ≡ change_first (is_named c.now.src c.now.dst None)
+        (changed_route vifs.now c.now fixed) routes.old }
 {
     for r in routes.iter_mut() {
         if is_entry(r, c.src, c.dst) {

@@ -1,6 +1,6 @@
 //! The vifs as a list of records, and what decides over them.
 
-ghost use Rattle.std.specs.Prelude.{◌≡◌, ◌<◌, ◌≤◌, false, length};
+ghost use Rattle.std.specs.Prelude.{◌≡◌, ◌<◌, ◌≤◌, false, length, IfNone};
 ghost use Rattle.mr_model.specs.VifList.{vif_at, has_vif, register_vif, higher, vif_on, device_from, device_meant, add_vif_error, new_vif};
 
 use mr_base::{Device, Errno, VifRecord};
@@ -101,7 +101,8 @@ pub fn device_meant(devices: &[Device], c: &VifCtl) -> Option<u32>
 /// Why a vif is not added, if it is not.
 pub fn add_vif_error(devices: &[Device], vifs: &[VifRecord], c: &VifCtl) -> Option<Errno>
     requires { length devices.now ≤ 64 }
-    ensures { result ≡ add_vif_error devices.now vifs.now c.now }
+    ensures error { result ≡ add_vif_error devices.now vifs.now c.now }
+    ensures index { IfNone result (c.now.vif < 32) }
 {
     if 32 <= c.vif {
         return Some(Errno::TooManyVifs);

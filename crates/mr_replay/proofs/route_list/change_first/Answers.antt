@@ -1,4 +1,4 @@
-use Rattle.std.proofs.Common.{◌≡◌, ◌<◌, true, None, length, get_or, ◌∙◌, sym, arith}
+use Rattle.std.proofs.Common.{◌<◌, None, length, ◌∙◌, sym, arith}
 use Rattle.mr_model.specs.RouteList.{is_named, changed_route}
 use Rattle.mr_replay.proofs.TableLemmas.{change_at}
 use Rattle.mr_replay.proofs.route_list.change_first.Goals as goal
