@@ -11,3 +11,4 @@ pub mod Lines
 pub mod Phases
 pub mod FitsDraft
 pub mod Running
+pub mod TableLemmas

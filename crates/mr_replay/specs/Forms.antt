@@ -1,5 +1,5 @@
 -- The forms of single words: numbers, addresses, names of devices.
-use Rattle.std.specs.Prelude.{ℕ, ◌+◌, ◌-◌, ◌*◌, ◌==◌, ◌&&◌, ◌||◌, Bool, not, nat_lt, nat_le, if◌then◌else◌, Option, Some, None, option_and_then, List, [], ◌∷◌, length, fold, bytes_eq, codes, slice_index}
+use Rattle.std.specs.Prelude.{ℕ, ◌+◌, ◌-◌, ◌*◌, ◌==◌, ◌&&◌, ◌||◌, Bool, true, false, not, nat_lt, nat_le, if◌then◌else◌, Option, Some, None, option_and_then, List, [], ◌∷◌, length, fold, bytes_eq, codes, slice_index, slice_index_or, slice_set}
 use Rattle.std.specs.List.{list_all, list_any}
 use Rattle.mr_replay.specs.declared.scenario.Named.{Named}
 
@@ -22,19 +22,19 @@ digit_on value b = value * 10 + (b - 48)
 abbrev pub number_of : ℕ → List ℕ → Option ℕ
 number_of most w = if is_numeral w && nat_le (fold digit_on 0 w) most then Some (fold digit_on 0 w) else None
 
--- the bytes before the first dot
-abbrev pub before_dot : List ℕ → List ℕ
-before_dot [] = []
-before_dot (b ∷ bs) = if b == 46 then [] else b ∷ before_dot bs
+-- the bytes before the first separator
+abbrev pub before : ℕ → List ℕ → List ℕ
+before sep [] = []
+before sep (b ∷ bs) = if b == sep then [] else b ∷ before sep bs
 
--- the parts behind the first dot
-abbrev pub parts_behind : List ℕ → List (List ℕ)
-parts_behind [] = []
-parts_behind (b ∷ bs) = if b == 46 then before_dot bs ∷ parts_behind bs else parts_behind bs
+-- the parts behind the first separator
+abbrev pub parts_behind : ℕ → List ℕ → List (List ℕ)
+parts_behind sep [] = []
+parts_behind sep (b ∷ bs) = if b == sep then before sep bs ∷ parts_behind sep bs else parts_behind sep bs
 
--- the parts of a word that dots part
-abbrev pub parts_of : List ℕ → List (List ℕ)
-parts_of bs = before_dot bs ∷ parts_behind bs
+-- the parts of a word that separators part
+abbrev pub parts_of : ℕ → List ℕ → List (List ℕ)
+parts_of sep bs = before sep bs ∷ parts_behind sep bs
 
 -- an address from its four numbers
 abbrev pub joined : Option ℕ → Option ℕ → Option ℕ → Option ℕ → Option ℕ
@@ -49,12 +49,12 @@ four_of _ = None
 -- an address: four numbers of 0 to 255 parted by dots
 abbrev pub address_of : List ℕ → Option ℕ
 address_of w =
-    option_and_then (λ p. joined (number_of 255 p.0) (number_of 255 p.1) (number_of 255 p.2) (number_of 255 p.3)) (four_of (parts_of w))
+    option_and_then (λ p. joined (number_of 255 p.0) (number_of 255 p.1) (number_of 255 p.2) (number_of 255 p.3)) (four_of (parts_of 46 w))
 
--- the parts of what a dot leaves
-abbrev pub parts_left : Option (List ℕ) → List (List ℕ)
-parts_left None = []
-parts_left (Some rest) = parts_of rest
+-- the parts of what a separator leaves
+abbrev pub parts_left : ℕ → Option (List ℕ) → List (List ℕ)
+parts_left sep None = []
+parts_left sep (Some rest) = parts_of sep rest
 
 abbrev pub is_letter : ℕ → Bool
 is_letter b = (nat_le 65 b && nat_le b 90) || (nat_le 97 b && nat_le b 122)
@@ -73,3 +73,51 @@ is_device_name w = begins_name w && not (bytes_eq w (codes "pimreg")) && list_al
 
 abbrev pub is_taken : List Named → List ℕ → Bool
 is_taken devices w = list_any (λ d. bytes_eq d.name w) devices
+
+-- the number of the device with this name, where the first of these has number n
+abbrev pub device_from : ℕ → List ℕ → List Named → Option ℕ
+device_from n w [] = None
+device_from n w (d ∷ ds) = if bytes_eq d.name w then Some n else device_from (n + 1) w ds
+
+-- `@N`, a device's number
+abbrev pub local_of : List ℕ → Option ℕ
+local_of [] = None
+local_of (b ∷ w) = if b == 64 then number_of 4294967295 w else None
+
+abbrev pub pair_of : Option ℕ → Option ℕ → Option (ℕ × ℕ)
+pair_of (Some a) (Some b) = Some (a, b)
+pair_of _ _ = None
+
+abbrev pub two_parts : List (List ℕ) → Option (ℕ × ℕ)
+two_parts (v ∷ t ∷ []) = pair_of (number_of 31 v) (number_of 255 t)
+two_parts _ = None
+
+-- `V:T`: a vif, 0 to 31, and its threshold, 0 to 255
+abbrev pub item_of : List ℕ → Option (ℕ × ℕ)
+item_of w = two_parts (parts_of 58 w)
+
+-- The thresholds with those of further items: each vif stands once.
+abbrev pub thresholds_from_items : List ℕ → List Bool → List (List ℕ) → Option (List ℕ)
+thresholds_from_items ttls seen [] = Some ttls
+thresholds_from_items ttls seen (w ∷ ws) = option_and_then (λ i. if slice_index_or seen i.0 false then None else thresholds_from_items (slice_set ttls i.0 i.1) (slice_set seen i.0 true) ws) (item_of w)
+
+-- the value of a hex digit
+abbrev pub hex_digit : ℕ → Option ℕ
+hex_digit b =
+    if is_digit b then Some (b - 48)
+    else (if nat_le 97 b && nat_le b 102 then Some (b - 87)
+    else (if nat_le 65 b && nat_le b 70 then Some (b - 55) else None))
+
+abbrev pub hex_byte : Option ℕ → Option ℕ → Option (List ℕ) → Option (List ℕ)
+hex_byte (Some h) (Some l) (Some bs) = Some ((h * 16 + l) ∷ bs)
+hex_byte _ _ _ = None
+
+-- the bytes that hex digits spell, two each
+abbrev pub bytes_of : List ℕ → Option (List ℕ)
+bytes_of [] = Some []
+bytes_of (h ∷ []) = None
+bytes_of (h ∷ l ∷ ds) = hex_byte (hex_digit h) (hex_digit l) (bytes_of ds)
+
+-- up to 131,070 hex digits
+abbrev pub hex_of : List ℕ → Option (List ℕ)
+hex_of w = if nat_le (length w) 131070 then bytes_of w else None

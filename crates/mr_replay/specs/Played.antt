@@ -1,8 +1,18 @@
--- The run of a scenario on one thread, and the calls of it that are not built: those that are not answered `Good`.
-use Rattle.std.specs.Prelude.{ℕ, Bool, true, false, if◌then◌else◌, Result, Ok, Err, List, [], ◌∷◌, ◌++◌}
+-- The run of a scenario on one thread, and what of it is not built: calls that are not answered `Good`, and packets that are not
+-- plainly forwarded.
+use Rattle.std.specs.Prelude.{ℕ, ◌+◌, ◌==◌, Bool, true, false, not, if◌then◌else◌, Result, Ok, Err, List, [], ◌∷◌, ◌++◌, length}
 use Rattle.mr_base.specs.declared.numbers.DaemonNo.{DaemonNo}
 use Rattle.mr_model.specs.declared.entry.Entry.{Entry}
-use Rattle.mr_model.specs.declared.entry.Entry.TheVariants.{Call, EndPhase}
+use Rattle.mr_model.specs.declared.entry.Entry.TheVariants.{Call, Slow, EndPhase}
+use Rattle.mr_base.specs.declared.numbers.LaneNo.{LaneNo}
+use Rattle.mr_model.specs.declared.flow.Flow.{Flow}
+use Rattle.mr_model.specs.declared.outcome.Outcome.{Outcome}
+use Rattle.mr_model.specs.declared.outcome.Outcome.TheVariants.{Forward}
+use Rattle.mr_model.specs.Outcome.{outcome}
+use Rattle.mr_replay.specs.declared.scenario.Given.{Given}
+use Rattle.mr_replay.specs.declared.scenario.Given.TheVariants.{Bytes}
+use Rattle.mr_replay.specs.declared.scenario.Item.{Item}
+use Rattle.mr_replay.specs.Made.{flow_of}
 use Rattle.mr_model.specs.declared.limits.Limits.{Limits}
 use Rattle.mr_model.specs.declared.reply.Reply.{Reply}
 use Rattle.mr_model.specs.declared.reply.Reply.TheVariants.{Good}
@@ -20,9 +30,11 @@ abbrev pub is_good : Reply → Bool
 is_good Good = true
 is_good _ = false
 
--- the requests that are built
+-- the requests that are built; no entry for any origin is
 abbrev pub is_built : Request → Bool
 is_built request.Init = true
+is_built (request.AddVif c) = true
+is_built (request.AddMfc c) = not (c.src.0 == 0)
 is_built _ = false
 
 -- the history behind h with a call that was answered so; the call's line where the answer is not built
@@ -41,15 +53,35 @@ abbrev pub play_lines : Limits → List Entry → List ScriptLine → Result (Li
 play_lines limits h [] = Ok h
 play_lines limits h (l ∷ ls) = play_line limits h l >>= λ g. play_lines limits g ls
 
--- each phase's lines, then its end
-abbrev pub play_phases : Limits → List Entry → List Phase → Result (List Entry) ℕ
-play_phases limits h [] = Ok h
-play_phases limits h (p ∷ ps) = play_lines limits h p.script >>= λ g. play_phases limits (g ++ EndPhase ∷ []) ps
+-- the history behind h with a packet that met this outcome; the packet's line where that is no plain forward
+abbrev pub with_outcome : List Entry → ℕ → LaneNo → ℕ → Flow → Outcome → Result (List Entry) ℕ
+with_outcome h line lane n flow (Forward entry input outs) = Ok (h ++ Slow lane n (length h) flow (Forward entry input outs) ∷ [])
+with_outcome h line lane n flow _ = Err line
 
--- the history of a scenario, or the line of its first call that is not built
+abbrev pub play_given : Limits → List Entry → ℕ → LaneNo → ℕ → ℕ → Given → Result (List Entry) ℕ
+play_given limits h line lane n dev (Bytes bs) = with_outcome h line lane n (flow_of dev bs) (outcome limits h (flow_of dev bs))
+
+-- item n of the lane: it is decided by the history so far
+abbrev pub play_item : Limits → List Entry → ℕ → Item → Result (List Entry) ℕ
+play_item limits h n i = play_given limits h i.line i.lane n i.dev i.given
+
+-- the items of the lane, of which the first has number n
+abbrev pub play_items : Limits → List Entry → ℕ → List Item → Result (List Entry) ℕ
+play_items limits h n [] = Ok h
+play_items limits h n (i ∷ is) = play_item limits h n i >>= λ g. play_items limits g (n + 1) is
+
+-- a phase: the lines of its daemon, then the items of its lane, of which the first has number n, then its end
+abbrev pub play_phase : Limits → List Entry → ℕ → Phase → Result (List Entry) ℕ
+play_phase limits h n p = play_lines limits h p.script >>= λ g. play_items limits g n p.items >>= λ k. Ok (k ++ EndPhase ∷ [])
+
+abbrev pub play_phases : Limits → List Entry → ℕ → List Phase → Result (List Entry) ℕ
+play_phases limits h n [] = Ok h
+play_phases limits h n (p ∷ ps) = play_phase limits h n p >>= λ g. play_phases limits g (n + length p.items) ps
+
+-- the history of a scenario, or the line of its first call or packet that is not built
 abbrev pub played : Scenario → Result (List Entry) ℕ
-played scenario = play_phases scenario.limits [] scenario.phases
+played scenario = play_phases scenario.limits [] 1 scenario.phases
 
--- what bytes come to: the history, or the first line that is not built, by its form or else by its call
+-- what bytes come to: the history, or the first line that is not built, by its form or else by its call or packet
 abbrev pub outcome_of : List ℕ → Result (List Entry) ℕ
 outcome_of bytes = spelled bytes >>= played

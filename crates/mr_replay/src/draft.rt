@@ -10,6 +10,8 @@ pub struct Draft {
     pub daemons: List<DaemonKind>,
     /// How many script lines there are.
     pub asked: u32,
+    /// How many items there are.
+    pub sent: u32,
     /// How many phases there are.
     pub opened: u32,
     /// The phases that have ended.

@@ -2,6 +2,7 @@
 #![tactic(auto)]
 
 mod cursor;
+mod decide;
 mod draft;
 mod forms;
 mod head_lines;
@@ -10,10 +11,12 @@ mod machine;
 mod phase_lines;
 mod playing;
 mod reading;
+mod route_list;
 mod scenario;
 mod status;
 mod stop;
 mod top;
+mod vif_list;
 mod writing;
 
 pub use laws::{built_text, played_is_legal, spelled_fits};

@@ -61,6 +61,7 @@ fn draft_of(alloc: Global, bytes: &[u8]) -> Result<Draft, Stop>
         devices: List(Vec::new(alloc)),
         daemons: List(Vec::new(alloc)),
         asked: 0,
+        sent: 0,
         opened: 0,
         phases: List(Vec::new(alloc)),
         current: None,
