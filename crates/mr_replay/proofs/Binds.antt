@@ -1,6 +1,6 @@
 -- What options and results say of their parts.
 use Rattle.std.proofs.Common.{◌≡◌, Bool, true, false, Option, Some, None, Result, Ok, Err, refl}
-use Rattle.std.specs.Prelude.{if◌then◌else◌, IfSome, IfOk, option_and_then}
+use Rattle.std.specs.Prelude.{if◌then◌else◌, IfSome, IfOk, option_and_then, is_none}
 use Rattle.mr_replay.specs.Spelled.{◌>>=◌, when}
 
 pub bind_ok : {A B E : Type 0} (r : Result A E) (f : A → Result B E) (y : B) → (r >>= f) ≡ Ok y → (x : A) × (r ≡ Ok x) × (f x ≡ Ok y)
@@ -42,3 +42,7 @@ any_some (Some x) = tt
 pub ok_if : {A E : Type 0} (test : Bool) (x : A) (d : E) (P : A → Type 0) → P x → IfOk (if test then Ok x else Err d) P
 ok_if true x d P p = p
 ok_if false x d P p = tt
+
+pub none_if : {A : Type 0} (o : Option A) → is_none o ≡ true → o ≡ None
+none_if None e = refl
+none_if (Some x) e = absurd (cc)

@@ -1,13 +1,13 @@
 pub mod Cuts
 pub mod Numbers
 pub mod Names
-pub mod Calls
 pub mod Bare
-pub mod BuiltText
-pub mod LegalPush
+pub mod BuiltEnding
 pub mod Binds
 pub mod Each
+pub mod Looks
 pub mod Lines
+pub mod Items
 pub mod Phases
 pub mod FitsDraft
 pub mod Running

@@ -2,9 +2,8 @@
 use Rattle.std.proofs.Common.{◌≡◌, ℕ, ◌+◌, ◌≤◌, ◌<◌, false, Ok, List, [], ◌∷◌, ◌++◌, length, refl, sym, ap, ◌∙◌, arith, subst}
 use Rattle.std.proofs.Math.Seq.{append_snoc}
 use Rattle.std.proofs.lemmas.List.{append-nil}
-use Rattle.std.proofs.lemmas.List.Sums.{sum_by_push}
 use Rattle.std.specs.List.{AllByRecursion, list_any}
-use Rattle.std.specs.Prelude.{flat_map, if◌then◌else◌}
+use Rattle.std.specs.Prelude.{flat_map}
 use Rattle.mr_base.specs.declared.numbers.DaemonNo.{DaemonNo}
 use Rattle.mr_model.specs.declared.entry.Entry.{Entry}
 use Rattle.mr_model.specs.declared.entry.Entry.TheVariants.{Call}
@@ -12,14 +11,16 @@ use Rattle.mr_model.specs.declared.limits.Limits.{Limits}
 use Rattle.mr_model.specs.declared.request.Request.{Request}
 use Rattle.mr_model.specs.Answer.{answer}
 use Rattle.mr_model.specs.Legal.{IsDaemon, IsLegal}
-use Rattle.mr_model.specs.Past.{controls, phases, is_control, is_end}
+use Rattle.mr_model.specs.Past.{controls, phases, packets, last_index, last_look, is_end}
+use Rattle.mr_model.proofs.Pushing.{legal_push}
+use Rattle.mr_model.proofs.PushingLists.{controls_push, phases_push, packets_push, last_index_push, last_look_push}
 use Rattle.mr_replay.specs.declared.scenario.Script.{Script}
 use Rattle.mr_replay.specs.declared.scenario.Script.TheVariants as script
 use Rattle.mr_replay.specs.declared.scenario.ScriptLine.{ScriptLine}
 use Rattle.mr_replay.specs.Made.{sent, asked, of_daemon}
 use Rattle.mr_replay.specs.Played.{is_built, with_call, is_good, play_script, play_line, play_lines}
 use Rattle.mr_replay.proofs.Binds.{bind_ok, same_ok, let_through, passed}
-use Rattle.mr_replay.proofs.LegalPush.{legal_push}
+use Rattle.mr_replay.proofs.Looks.{one}
 
 -- the call that asks r, with the machine's answer
 abbrev pub call_of : Limits → List Entry → DaemonNo → Request → Entry
@@ -47,6 +48,9 @@ pub record Plays (limits : Limits) (h : List Entry) (ls : List ScriptLine) (g : 
   pub legal : IsLegal limits g
   pub controls_are : controls g ≡ controls h + length ls
   pub phases_are : phases g ≡ phases h
+  pub packets_are : packets one g ≡ packets one h
+  pub index_is : last_index one g ≡ last_index one h
+  pub look_is : last_look one g ≡ last_look one h
   pub no_end : list_any is_end part ≡ false
   pub sends_none : (lane : ℕ) → sent lane part ≡ []
   pub asks : (d : ℕ) → asked d part ≡ flat_map (of_daemon d) ls
@@ -58,6 +62,9 @@ plays_none limits h legal = record {
   legal = legal;
   controls_are = omega arith;
   phases_are = refl;
+  packets_are = refl;
+  index_is = refl;
+  look_is = refl;
   no_end = refl;
   sends_none = λ lane. refl;
   asks = λ d. refl;
@@ -76,8 +83,11 @@ plays_more limits h m l ls g a p =
       part = call ∷ p.part;
       splits = p.splits ∙ ap (λ (x : List Entry). x ++ p.part) a.splits ∙ append_snoc h call p.part;
       legal = p.legal;
-      controls_are = omega (arith, p.controls_are, ap controls a.splits ∙ sum_by_push (λ e. if is_control e then 1 else 0) h call);
-      phases_are = omega (arith, p.phases_are, ap phases a.splits ∙ sum_by_push (λ e. if is_end e then 1 else 0) h call);
+      controls_are = omega (arith, p.controls_are, ap controls a.splits ∙ controls_push h call);
+      phases_are = omega (arith, p.phases_are, ap phases a.splits ∙ phases_push h call);
+      packets_are = omega (arith, p.packets_are, ap (packets one) a.splits ∙ packets_push one h call);
+      index_is = p.index_is ∙ ap (last_index one) a.splits ∙ last_index_push one h call;
+      look_is = p.look_is ∙ ap (last_look one) a.splits ∙ last_look_push one h call;
       no_end = p.no_end;
       sends_none = λ lane. p.sends_none lane;
       asks = λ d. rw (a.asks, p.asks d) refl;
@@ -89,6 +99,6 @@ lines_play limits h (l ∷ ls) g legal daemons room e =
     let b = bind_ok (play_line limits h l) (λ m. play_lines limits m ls) g e in
     let a = adds_call limits h l.line l.daemon l.script b.0 b.1 in
     let call : Entry = call_of limits h l.daemon a.request in
-    let one : controls b.0 ≡ controls h + 1 = ap controls a.splits ∙ sum_by_push (λ e. if is_control e then 1 else 0) h call in
+    let one : controls b.0 ≡ controls h + 1 = ap controls a.splits ∙ controls_push h call in
     let legal_one : IsLegal limits b.0 = subst (λ (x : List Entry). IsLegal limits x) (sym a.splits) (call_is_legal limits h l.daemon a.request legal daemons.0 (omega arith)) in
     plays_more limits h b.0 l ls g a (lines_play limits b.0 ls g legal_one daemons.1 (omega arith) b.2)

@@ -1,6 +1,6 @@
 //! Laws of scenarios, of their runs and of their texts.
 
-ghost use Rattle.mr_replay.specs.Laws.{BuiltText, PlayedIsLegal, SpelledFits};
+ghost use Rattle.mr_replay.specs.Laws.{BuiltEnding, PlayedIsLegal, SpelledFits};
 
 /// A scenario that bytes spell fits its own limits.
 pub fn spelled_fits()
@@ -12,7 +12,7 @@ pub fn played_is_legal()
     ensures { PlayedIsLegal }
 {}
 
-/// The text of a history of good Inits and ends of phases has nothing but the entries between its first and its last line.
+/// The entries that a run makes so far have no fates, and the tail of their text has the routes and the vifs alone.
 pub fn built_text()
-    ensures { BuiltText }
+    ensures { BuiltEnding }
 {}

@@ -1,5 +1,5 @@
-use Rattle.mr_replay.proofs.BuiltText.{text_of_built}
+use Rattle.mr_replay.proofs.BuiltEnding.{ending_of_built}
 use Rattle.mr_replay.proofs.laws.built_text.Goals as goal
 
 pub returns : goal.returns
-returns c = text_of_built
+returns c = ending_of_built
