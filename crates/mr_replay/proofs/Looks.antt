@@ -1,5 +1,5 @@
 -- No look, own entry or end of a phase stands behind the end of a history.
-use Rattle.std.proofs.Common.{◌≡◌, ℕ, ◌+◌, ◌-◌, ◌≤◌, ◌<◌, Bool, true, false, List, [], ◌∷◌, length, take, arith}
+use Rattle.std.proofs.Common.{ℕ, ◌+◌, ◌-◌, ◌≤◌, Bool, true, false, List, [], ◌∷◌, length, take, arith}
 use Rattle.std.proofs.lemmas.List.{length-take}
 use Rattle.std.specs.Prelude.{if◌then◌else◌}
 use Rattle.mr_base.specs.declared.numbers.LaneNo.{LaneNo}
@@ -15,6 +15,7 @@ within_if : (test : Bool) (x y n : ℕ) → x ≤ n → y ≤ n → (if test the
 within_if true x y n f g = f
 within_if false x y n f g = g
 
+-- the last entry that passes a test, where n entries stand before g
 last_from_within : (test : Entry → Bool) (before n : ℕ) (g : List Entry) → before ≤ n → last_from test before (n + 1) g ≤ n + length g
 last_from_within test before n [] le = omega arith
 last_from_within test before n (e ∷ g) le =

@@ -92,7 +92,8 @@ plays_none : (s : Scenario) (before : List Item) (h : List Entry) → IsLegal s.
 plays_none s before h legal = record { part = []; splits = sym (append-nil h); legal = legal; made = refl }
 
 -- one more phase in front
-plays_more : (s : Scenario) (before : List Item) (h m : List Entry) (n : ℕ) (p : Phase) (ps : List Phase) (g : List Entry) → PlaysPhase s before h n p m → PlaysPhases s (before ++ p.items) (m ++ EndPhase ∷ []) ps g → PlaysPhases s before h (p ∷ ps) g
+plays_more : (s : Scenario) (before : List Item) (h m : List Entry) (n : ℕ) (p : Phase) (ps : List Phase) (g : List Entry) → PlaysPhase s before h n p m
+    → PlaysPhases s (before ++ p.items) (m ++ EndPhase ∷ []) ps g → PlaysPhases s before h (p ∷ ps) g
 plays_more s before h m n p ps g first rest = record {
   part = first.part ++ EndPhase ∷ rest.part;
   splits = rest.splits ∙ append_snoc m EndPhase rest.part ∙ ap (λ (x : List Entry). x ++ EndPhase ∷ rest.part) first.splits ∙ append_assoc h first.part (EndPhase ∷ rest.part);
