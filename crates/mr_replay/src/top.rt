@@ -48,8 +48,14 @@ fn history_of(alloc: Global, bytes: &[u8]) -> Result<String, Stop>
     ensures stopped { StopsAt result (outcome_of bytes.now) }
 {
     let scenario = read_scenario(alloc, bytes)?;
-    let entries = play(alloc, &scenario)?;
-    Ok(write_history(alloc, entries.as_slice())?)
+    let played = play(alloc, &scenario)?;
+    Ok(write_history(
+        alloc,
+        played.entries.as_slice(),
+        scenario.devices.0.as_slice(),
+        played.routes.as_slice(),
+        played.vifs.as_slice(),
+    )?)
 }
 
 /// Hands the history's text to the sink.
@@ -69,7 +75,7 @@ fn put<K: Sink>(out: &mut K, text: &str) -> Status
 /// name from the store, runs it and writes the text of its history to `out`. Other words are `Usage`.
 ///
 /// The statuses in their order: `Usage`; `StoreFault`, where the scenario cannot be read; `NotBuilt` with the first line
-/// whose form is not built yet, or else with the first call whose answer is not; `SinkFault`. `Memory` may come wherever
+/// whose form is not built yet, or else with the first call or packet whose outcome is not; `SinkFault`. `Memory` may come wherever
 /// memory is taken. With any but `Good` and `SinkFault` nothing is written.
 ///
 /// The runtime, the door, the clock and the gate are not asked yet.
