@@ -1,0 +1,14 @@
+//! IPv4 heads (RFC 791 section 3.1): a packet's head read from its bytes, and made.
+#![tactic(auto)]
+
+mod address;
+mod cause;
+mod fields;
+mod making;
+mod reading;
+mod sum;
+
+pub use address::{is_bad_source, is_link_local, is_multicast};
+pub use making::make_head;
+pub use mr_base::HeadError;
+pub use reading::read_head;
