@@ -56,7 +56,7 @@ all_six : (a b c d e f : Bool) → a ≡ true → b ≡ true → c ≡ true → 
     → (a && b && c && d && e && f) ≡ true
 all_six a b c d e f p q r s t u = rw (p, q, r, s, t, u) refl
 
-same_numbers : (m n : ℕ) → m ≡ n → (m == n) ≡ true
+pub same_numbers : (m n : ℕ) → m ≡ n → (m == n) ≡ true
 same_numbers m n e = grind (arith, nat_tests)
 
 -- Bytes that pass each test, as many as their first byte says, are a head.
@@ -73,7 +73,7 @@ pub head_within : (bs : List ℕ) → cause_in (length bs) bs ≡ None
     → (20 ≤ head_length bs) × (head_length bs ≤ length bs)
 head_within bs e = between 20 (head_length bs) (length bs) (passes (length bs) bs e).whole
 
-at_least : (n m : ℕ) → n ≤ m → nat_lt m n ≡ false
+pub at_least : (n m : ℕ) → n ≤ m → nat_lt m n ≡ false
 at_least n m h = grind (arith, nat_tests)
 
 -- Bytes that begin as accepted bytes do, and are their head's, are a head.
