@@ -29,8 +29,8 @@ AreBytes-set [] i v all h = all
 AreBytes-set (b ∷ bs) zero v all h = λ k. elim k as (λ k. get_or (v ∷ bs) k 0 < 256) [ zero ↦ h | suc j ↦ all (suc j) ]
 AreBytes-set (b ∷ bs) (suc i) v all h =
     λ k. elim k as (λ k. get_or (b ∷ set bs i v) k 0 < 256) [
-      zero ↦ all 0
-    | suc j ↦ AreBytes-set bs i v (λ m. all (suc m)) h j
+      | zero ↦ all 0
+      | suc j ↦ AreBytes-set bs i v (λ m. all (suc m)) h j
     ]
 
 carried-below : (n : ℕ) → carried n < 65536
@@ -43,7 +43,7 @@ carried-whole n h = grind (arith, nat_tests)
 -- A number where zeros stood, in bytes 10 and 11, counts with the others.
 filled : (a b c d e f g h i j n : ℕ) (bs : List ℕ) → n < 65536 → AreBytes (a ∷ b ∷ c ∷ d ∷ e ∷ f ∷ g ∷ h ∷ i ∷ j ∷ 0 ∷ 0 ∷ bs)
     → ones_sum 0 (with_two (a ∷ b ∷ c ∷ d ∷ e ∷ f ∷ g ∷ h ∷ i ∷ j ∷ 0 ∷ 0 ∷ bs) 10 n)
-      ≡ carried (word_sum (a ∷ b ∷ c ∷ d ∷ e ∷ f ∷ g ∷ h ∷ i ∷ j ∷ 0 ∷ 0 ∷ bs) + n)
+    ≡ carried (word_sum (a ∷ b ∷ c ∷ d ∷ e ∷ f ∷ g ∷ h ∷ i ∷ j ∷ 0 ∷ 0 ∷ bs) + n)
 filled a b c d e f g h i j n bs small all =
     let zeros = a ∷ b ∷ c ∷ d ∷ e ∷ f ∷ g ∷ h ∷ i ∷ j ∷ 0 ∷ 0 ∷ bs in
     ones_sum-word_sum 0 (with_two zeros 10 n)
@@ -53,7 +53,7 @@ filled a b c d e f g h i j n bs small all =
 -- With the complement of its sum a head sums to 65,535.
 completed : (a b c d e f g h i j : ℕ) (bs : List ℕ) → 0 < a → AreBytes (a ∷ b ∷ c ∷ d ∷ e ∷ f ∷ g ∷ h ∷ i ∷ j ∷ 0 ∷ 0 ∷ bs)
     → let zeros = a ∷ b ∷ c ∷ d ∷ e ∷ f ∷ g ∷ h ∷ i ∷ j ∷ 0 ∷ 0 ∷ bs in
-      ones_sum 0 (with_two zeros 10 (65535 - ones_sum 0 zeros)) ≡ 65535
+    ones_sum 0 (with_two zeros 10 (65535 - ones_sum 0 zeros)) ≡ 65535
 completed a b c d e f g h i j bs some all =
     let zeros = a ∷ b ∷ c ∷ d ∷ e ∷ f ∷ g ∷ h ∷ i ∷ j ∷ 0 ∷ 0 ∷ bs in
     let n = word_sum zeros in
@@ -86,10 +86,10 @@ unfolding unsummed_head made_head
 is_head-made_head ident ttl src dst total all least source multicast forwarded =
     let bs = made_head ident ttl src dst total in
     let ends =
-        (src / 16777216) ∷ (src / 65536 % 256) ∷ (src / 256 % 256) ∷ (src % 256)
-        ∷ (dst / 16777216) ∷ (dst / 65536 % 256) ∷ (dst / 256 % 256) ∷ (dst % 256) ∷ [] in
+    (src / 16777216) ∷ (src / 65536 % 256) ∷ (src / 256 % 256) ∷ (src % 256)
+    ∷ (dst / 16777216) ∷ (dst / 65536 % 256) ∷ (dst / 256 % 256) ∷ (dst % 256) ∷ [] in
     let sum : ones_sum 0 bs ≡ 65535 =
-        completed 69 0 (total / 256) (total % 256) (ident / 256) (ident % 256) 0 0 ttl 17 ends (omega arith) all in
+    completed 69 0 (total / 256) (total % 256) (ident / 256) (ident % 256) 0 0 ttl 17 ends (omega arith) all in
     let t : two_at bs 2 ≡ total = omega arith in
     let s : four_at bs 12 ≡ src = omega arith in
     let d : four_at bs 16 ≡ dst = omega arith in

@@ -89,9 +89,9 @@ front_is_head bs front e at long same =
     let head : head_length front ≡ head_length bs = ap (λ b. 4 * (b % 16)) first in
     let two : two_at front 2 ≡ two_at bs 2 = rw (at 2 (omega arith), at 3 (omega arith)) refl in
     let src : four_at front 12 ≡ four_at bs 12 =
-        rw (at 12 (omega arith), at 13 (omega arith), at 14 (omega arith), at 15 (omega arith)) refl in
+    rw (at 12 (omega arith), at 13 (omega arith), at 14 (omega arith), at 15 (omega arith)) refl in
     let dst : four_at front 16 ≡ four_at bs 16 =
-        rw (at 16 (omega arith), at 17 (omega arith), at 18 (omega arith), at 19 (omega arith)) refl in
+    rw (at 16 (omega arith), at 17 (omega arith), at 18 (omega arith), at 19 (omega arith)) refl in
     let q : PassesEach (two_at bs 2) front = record {
       long = at_least 20 (two_at bs 2) (omega arith);
       version = subst (λ b. not (b / 16 == 4) ≡ false) (sym first) p.version;

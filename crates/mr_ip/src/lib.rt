@@ -7,6 +7,8 @@ mod fields;
 mod making;
 mod reading;
 mod sum;
+#[cfg(test)]
+mod tests;
 
 pub use address::{is_bad_source, is_link_local, is_multicast};
 pub use making::make_head;

@@ -15,7 +15,9 @@ fn unsummed_head(ident: u16, ttl: u8, src: Addr, dst: Addr, length: u16) -> [u8;
     let [l, n] = length.to_be_bytes();
     let [s, t, u, v] = src.0.to_be_bytes();
     let [w, x, y, z] = dst.0.to_be_bytes();
-    [0x45, 0, l, n, i, d, 0, 0, ttl, 17, 0, 0, s, t, u, v, w, x, y, z]
+    [
+        0x45, 0, l, n, i, d, 0, 0, ttl, 17, 0, 0, s, t, u, v, w, x, y, z,
+    ]
 }
 
 /// A head of 20 bytes (RFC 791 section 3.1): type of service 0, no flags, the first fragment, protocol 17,

@@ -13,7 +13,7 @@ unfolding made_head
 invariant_of-result c =
     let small : AreBytes c.unsummed_head-bytes.result = search rules in
     let all : AreBytes (unsummed_head c.args.ident c.args.ttl c.args.src.0 c.args.dst.0 c.args.length) =
-        subst AreBytes c.unsummed_head-bytes.ensures small in
+    subst AreBytes c.unsummed_head-bytes.ensures small in
     let r = c.requires in
     record {
       accepted =

@@ -9,7 +9,7 @@ invariant-loop-rest l = record {
   whole : length l.rest % 4 ≡ 0;
   fits : l.sum + 4294967296 * length l.rest ≤ 4294967296 * 60;
   small : AreBytes l.rest;
-  same : ones_sum (carried l.sum) l.rest ≡ ones_sum 0 l.bytes
+  same : ones_sum (carried l.sum) l.rest ≡ ones_sum 0 l.bytes;
 }
 
 abbrev pub decreases-loop-rest : goal.decreases-loop-rest
