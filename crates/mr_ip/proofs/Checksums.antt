@@ -1,5 +1,5 @@
 -- The checksum of a made head.
-use Rattle.std.proofs.Common.{◌≡◌, ℕ, ◌+◌, ◌-◌, ◌*◌, ◌/◌, ◌%◌, ◌<◌, ◌≤◌, ◌==◌, ◌∙◌, ◌||◌, ap, sym, subst, refl, Bool, true, false, not, nat_lt, List, [], ◌∷◌, length, get_or, take, set, zero, suc, arith}
+use Rattle.std.proofs.Common.{◌≡◌, ℕ, ◌+◌, ◌-◌, ◌*◌, ◌/◌, ◌%◌, ◌<◌, ◌≤◌, ◌==◌, ◌∙◌, ◌||◌, ap, sym, subst, refl, true, false, not, nat_lt, List, [], ◌∷◌, length, get_or, take, set, zero, suc, arith}
 use Rattle.std.proofs.lemmas.Bool.Decides.{nat_tests}
 use Rattle.std.proofs.Math.Seq.{take-length}
 use Rattle.mr_base.specs.Heads.{is_head, head_length, ones_sum, two_at, four_at, with_two, is_multicast, is_link_local, is_bad_source}
@@ -9,11 +9,11 @@ use Rattle.mr_ip.proofs.Heads.{PassesEach, is_head-passes, not_outside, at_least
 use Rattle.mr_ip.proofs.Sums.{AreBytes, plus-carried}
 
 -- the plain sum of the numbers of 16 bits
-abbrev pub word_sum : List ℕ → ℕ
+abbrev word_sum : List ℕ → ℕ
 word_sum (a ∷ b ∷ bs) = a * 256 + b + word_sum bs
 word_sum _ = 0
 
-pub ones_sum-word_sum : (s : ℕ) (bs : List ℕ) → AreBytes bs → ones_sum (carried s) bs ≡ carried (s + word_sum bs)
+ones_sum-word_sum : (s : ℕ) (bs : List ℕ) → AreBytes bs → ones_sum (carried s) bs ≡ carried (s + word_sum bs)
 ones_sum-word_sum s [] all = let e : s ≡ s + 0 = omega arith in ap carried e
 ones_sum-word_sum s (a ∷ []) all = let e : s ≡ s + 0 = omega arith in ap carried e
 ones_sum-word_sum s (a ∷ b ∷ bs) all =
@@ -33,9 +33,6 @@ AreBytes-set (b ∷ bs) (suc i) v all h =
       | suc j ↦ AreBytes-set bs i v (λ m. all (suc m)) h j
     ]
 
-carried-below : (n : ℕ) → carried n < 65536
-carried-below n = grind (arith, nat_tests)
-
 -- a sum with its complement added
 carried-whole : (n : ℕ) → 0 < n → carried (n + (65535 - carried n)) ≡ 65535
 carried-whole n h = grind (arith, nat_tests)
@@ -47,7 +44,8 @@ filled : (a b c d e f g h i j n : ℕ) (bs : List ℕ) → n < 65536 → AreByte
 filled a b c d e f g h i j n bs small all =
     let zeros = a ∷ b ∷ c ∷ d ∷ e ∷ f ∷ g ∷ h ∷ i ∷ j ∷ 0 ∷ 0 ∷ bs in
     ones_sum-word_sum 0 (with_two zeros 10 n)
-    (AreBytes-set (set zeros 10 (n / 256)) 11 (n % 256) (AreBytes-set zeros 10 (n / 256) all (omega arith)) (omega arith))
+    (AreBytes-set (set zeros 10 (n / 256)) 11 (n % 256)
+    (AreBytes-set zeros 10 (n / 256) all (omega arith)) (omega arith))
     ∙ ap carried (omega arith)
 
 -- With the complement of its sum a head sums to 65,535.

@@ -1,5 +1,5 @@
 -- What an accepted head is, test by test.
-use Rattle.std.proofs.Common.{◌≡◌, ℕ, ◌+◌, ◌*◌, ◌<◌, ◌≤◌, ◌/◌, ◌%◌, ◌==◌, ◌&&◌, ◌||◌, ◌∙◌, ap, sym, subst, Bool, true, false, not, nat_lt, cond, Option, Some, None, List, length, get_or, take, refl, arith}
+use Rattle.std.proofs.Common.{◌≡◌, ℕ, ◌*◌, ◌<◌, ◌≤◌, ◌/◌, ◌%◌, ◌==◌, ◌&&◌, ◌||◌, ◌∙◌, ap, sym, subst, Bool, true, false, not, nat_lt, cond, Option, Some, None, List, length, get_or, take, refl, arith}
 use Rattle.std.proofs.lemmas.Bool.Decides.{nat_tests}
 use Rattle.std.proofs.lemmas.List.{get_or-take, length-take-le, take-take}
 use Rattle.mr_base.specs.Heads.{cause_in, is_head, head_length, ones_sum, two_at, four_at, is_multicast, is_link_local, is_bad_source}
@@ -56,7 +56,7 @@ all_six : (a b c d e f : Bool) → a ≡ true → b ≡ true → c ≡ true → 
     → (a && b && c && d && e && f) ≡ true
 all_six a b c d e f p q r s t u = rw (p, q, r, s, t, u) refl
 
-pub same_numbers : (m n : ℕ) → m ≡ n → (m == n) ≡ true
+same_numbers : (m n : ℕ) → m ≡ n → (m == n) ≡ true
 same_numbers m n e = grind (arith, nat_tests)
 
 -- Bytes that pass each test, as many as their first byte says, are a head.

@@ -2,8 +2,8 @@
 use Rattle.std.specs.Prelude.{ℕ, ◌-◌, ◌/◌, ◌%◌, List, [], ◌∷◌}
 use Rattle.mr_base.specs.Heads.{ones_sum, with_two}
 
--- Twenty bytes with zeros in the checksum's place: version 4, no options, type of service 0, no flags, the first
--- fragment, protocol 17.
+-- Twenty bytes with zeros in the checksum's place: version 4, no options, type of service 0, no
+-- flags, the first fragment, protocol 17.
 unfoldable pub unsummed_head : (ident ttl src dst length : ℕ) → List ℕ
 unsummed_head ident ttl src dst length =
     69 ∷ 0 ∷ (length / 256) ∷ (length % 256)

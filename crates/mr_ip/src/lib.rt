@@ -1,4 +1,4 @@
-//! IPv4 heads (RFC 791 section 3.1): a packet's head read from its bytes, and made.
+//! IPv4 heads (RFC 791 section 3.1): read from the bytes of a packet, and made for one.
 #![tactic(auto)]
 
 mod address;

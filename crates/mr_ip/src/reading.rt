@@ -7,15 +7,17 @@ use crate::cause::cause_of;
 use crate::fields::{four_at, head_length, two_at};
 use mr_base::{Addr, Few, Head, HeadError};
 
-/// The accepted head with which a packet's bytes begin (RFC 791 section 3.1, the checksum by RFC 1071).
-/// Bytes behind the head are not read, and may be more than the total length says. It takes no memory.
+/// The head with which a packet's bytes begin, options included, where it is accepted (RFC 791
+/// section 3.1, the checksum by RFC 1071). What stands behind the head is not looked at, and may be
+/// longer than the total length says. It takes no memory.
 ///
 /// # Errors
 ///
-/// The first cause that holds, in the order of `HeadError`.
+/// The first cause for which the head is not accepted, in the order of `HeadError`.
 pub fn read_head(bytes: &[u8]) -> Result<Head, HeadError>
     ensures cause { IfErr result (λ e. heads.cause_of bytes.now ≡ Some e) }
-    ensures found { IfOk result (λ head. (heads.cause_of bytes.now ≡ None) × IsHeadOf head bytes.now) }
+    ensures accepted { IfOk result (λ _. heads.cause_of bytes.now ≡ None) }
+    ensures head { IfOk result (λ h. IsHeadOf h bytes.now) }
 {
     match cause_of(bytes) {
         Some(cause) => Err(cause),

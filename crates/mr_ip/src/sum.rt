@@ -21,8 +21,8 @@ fn carried(sum: u64) -> u16
     }
 }
 
-/// The ones' complement sum of the big-endian numbers of 16 bits of a head. It adds 32 bits at a time
-/// and the carries at the end, which gives the same.
+/// The ones' complement sum of the big-endian numbers of 16 bits of a head. It adds 32 bits at a
+/// time, and the carries at the end, which gives the same.
 pub fn ones_sum(bytes: &[u8]) -> u16
     requires whole { length bytes.now % 4 ≡ 0 }
     requires few { length bytes.now ≤ 60 }
