@@ -22,7 +22,8 @@ fn unsummed_head(ident: u16, ttl: u8, src: Addr, dst: Addr, length: u16) -> [u8;
 
 /// The head of 20 bytes of a UDP packet (RFC 791 section 3.1): protocol 17, type of service 0, no
 /// flags, the first fragment, and the checksum of RFC 1071. The length is the whole packet's, in
-/// bytes. `is_bad_source`, `is_multicast` and `is_link_local` test the addresses. It takes no memory.
+/// bytes. `is_bad_source`, `is_multicast` and `is_link_local` test the addresses. It takes no
+/// memory.
 pub fn make_head(ident: u16, ttl: u8, src: Addr, dst: Addr, length: u16) -> Head
     requires holds_head { 20 ≤ length }
     requires source { heads.is_bad_source src.0 ≡ false }
