@@ -1,6 +1,6 @@
 -- Where the first separator stands, a text is cut.
 use Rattle.std.proofs.Common.{◌≡◌, ◌≢◌, ℕ, zero, suc, ◌+◌, ◌<◌, ◌≤◌, ◌==◌, true, false, List, [], ◌∷◌, length, take, drop, slice_index, refl, ap, ◌∙◌, sym, arith, add-one, eq-eqb, ne_eqb, eq-or-lt_of_le, take_all, drop_of_length-le, subst, inl, inr}
-use Rattle.mr_replay.specs.Forms.{before_dot, parts_behind, parts_of}
+use Rattle.mr_replay.specs.Forms.{before, parts_behind, parts_of}
 use Rattle.mr_replay.specs.Words.{is_blank, lines_of, front_word, words_behind, with_word, words_of}
 
 -- A line ends at the first line feed.
@@ -72,32 +72,32 @@ word_first (b ∷ bs) (suc i) some within clean stops plain =
     let other : (b == 35) ≡ false = ne_eqb b 35 plain in
     ap (λ w. with_word w (words_behind (b ∷ bs))) parts.0 ∙ rw (other, parts.1) refl
 
--- A part ends at the first dot.
-pub parts_at : (bs : List ℕ) (i : ℕ) → i < length bs → ((k : ℕ) → k < i → slice_index bs k ≢ 46) → slice_index bs i ≡ 46 →
-    (before_dot bs ≡ take i bs) × (parts_behind bs ≡ parts_of (drop (suc i) bs))
-parts_at [] i within clean stops = absurd (omega arith)
-parts_at (b ∷ bs) zero within clean stops = rw (eq-eqb b 46 stops) (refl, refl)
-parts_at (b ∷ bs) (suc i) within clean stops =
-    let other : (b == 46) ≡ false = ne_eqb b 46 (clean 0 (omega arith)) in
-    let inner : (before_dot bs ≡ take i bs) × (parts_behind bs ≡ parts_of (drop (suc i) bs)) = parts_at bs i (omega arith) (λ k h. clean (suc k) (omega arith)) stops in
+-- A part ends at the first separator.
+pub parts_at : (sep : ℕ) (bs : List ℕ) (i : ℕ) → i < length bs → ((k : ℕ) → k < i → slice_index bs k ≢ sep) → slice_index bs i ≡ sep →
+    (before sep bs ≡ take i bs) × (parts_behind sep bs ≡ parts_of sep (drop (suc i) bs))
+parts_at sep [] i within clean stops = absurd (omega arith)
+parts_at sep (b ∷ bs) zero within clean stops = rw (eq-eqb b sep stops) (refl, refl)
+parts_at sep (b ∷ bs) (suc i) within clean stops =
+    let other : (b == sep) ≡ false = ne_eqb b sep (clean 0 (omega arith)) in
+    let inner : (before sep bs ≡ take i bs) × (parts_behind sep bs ≡ parts_of sep (drop (suc i) bs)) = parts_at sep bs i (omega arith) (λ k h. clean (suc k) (omega arith)) stops in
     rw other (ap (λ w. b ∷ w) inner.0, inner.1)
 
--- the first part, and the parts behind its dot
-pub part_first : (bs : List ℕ) (i : ℕ) → i < length bs → ((k : ℕ) → k < i → slice_index bs k ≢ 46) → (i < length bs → slice_index bs i ≡ 46) →
-    parts_of bs ≡ take i bs ∷ parts_of (drop (i + 1) bs)
-part_first bs i within clean stops =
-    let parts : (before_dot bs ≡ take i bs) × (parts_behind bs ≡ parts_of (drop (suc i) bs)) = parts_at bs i within clean (stops within) in
+-- the first part, and the parts behind its separator
+pub part_first : (sep : ℕ) (bs : List ℕ) (i : ℕ) → i < length bs → ((k : ℕ) → k < i → slice_index bs k ≢ sep) → (i < length bs → slice_index bs i ≡ sep) →
+    parts_of sep bs ≡ take i bs ∷ parts_of sep (drop (i + 1) bs)
+part_first sep bs i within clean stops =
+    let parts : (before sep bs ≡ take i bs) × (parts_behind sep bs ≡ parts_of sep (drop (suc i) bs)) = parts_at sep bs i within clean (stops within) in
     rw (add-one, parts.0, parts.1) refl
 
--- Without a dot all bytes are one part.
-pub part_whole : (bs : List ℕ) → ((k : ℕ) → k < length bs → slice_index bs k ≢ 46) → (before_dot bs ≡ bs) × (parts_behind bs ≡ [])
-part_whole [] clean = (refl, refl)
-part_whole (b ∷ bs) clean =
-    let other : (b == 46) ≡ false = ne_eqb b 46 (clean 0 (omega arith)) in
-    let inner : (before_dot bs ≡ bs) × (parts_behind bs ≡ []) = part_whole bs (λ k h. clean (suc k) (omega arith)) in
+-- Without a separator all bytes are one part.
+pub part_whole : (sep : ℕ) (bs : List ℕ) → ((k : ℕ) → k < length bs → slice_index bs k ≢ sep) → (before sep bs ≡ bs) × (parts_behind sep bs ≡ [])
+part_whole sep [] clean = (refl, refl)
+part_whole sep (b ∷ bs) clean =
+    let other : (b == sep) ≡ false = ne_eqb b sep (clean 0 (omega arith)) in
+    let inner : (before sep bs ≡ bs) × (parts_behind sep bs ≡ []) = part_whole sep bs (λ k h. clean (suc k) (omega arith)) in
     rw other (ap (λ w. b ∷ w) inner.0, inner.1)
 
-pub part_alone : (bs : List ℕ) (i : ℕ) → length bs ≤ i → ((k : ℕ) → k < i → slice_index bs k ≢ 46) → parts_of bs ≡ bs ∷ []
-part_alone bs i over clean =
-    let parts : (before_dot bs ≡ bs) × (parts_behind bs ≡ []) = part_whole bs (λ k h. clean k (omega arith)) in
+pub part_alone : (sep : ℕ) (bs : List ℕ) (i : ℕ) → length bs ≤ i → ((k : ℕ) → k < i → slice_index bs k ≢ sep) → parts_of sep bs ≡ bs ∷ []
+part_alone sep bs i over clean =
+    let parts : (before sep bs ≡ bs) × (parts_behind sep bs ≡ []) = part_whole sep bs (λ k h. clean k (omega arith)) in
     rw (parts.0, parts.1) refl

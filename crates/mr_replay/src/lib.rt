@@ -6,6 +6,7 @@ mod decide;
 mod draft;
 mod forms;
 mod head_lines;
+mod hex;
 mod laws;
 mod machine;
 mod phase_lines;

@@ -1,0 +1,2 @@
+pub mod MadeHeads
+pub mod Sums
