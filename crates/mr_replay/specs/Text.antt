@@ -60,7 +60,7 @@ vif_or_none None = codes "-"
 vif_or_none (Some i) = decimal i
 
 -- the local field: `@N` with flags 8, else an address
-abbrev pub local_word : VifCtl → Word
+unfoldable pub local_word : VifCtl → Word
 local_word c = if c.flags == 8 then 64 ∷ decimal c.local else address (record { 0 = c.local })
 
 -- `V:T` for each threshold that isn't 0, from vif i on

@@ -9,7 +9,7 @@ ghost use Rattle.mr_model.specs.declared.reply.Reply.TheVariants.{Good};
 ghost use Rattle.mr_model.specs.declared.request.Request.TheVariants.{Init, AddVif, AddMfc};
 ghost use Rattle.mr_model.specs.Verdict.{is_in};
 ghost use Rattle.mr_replay.specs.Built.{IsBuilt, AllBuilt};
-ghost use Rattle.mr_replay.specs.Text.{address, mask, vif_or_none, thresholds, entry_text, entries_text, route_line, name_at, device_word, vif_line, text};
+ghost use Rattle.mr_replay.specs.Text.{address, mask, vif_or_none, local_word, thresholds, entry_text, entries_text, route_line, name_at, device_word, vif_line, text};
 
 use crate::scenario::Named;
 use mr_base::{Addr, DaemonNo, LaneNo, Mask, Route, VifRecord};
@@ -26,6 +26,17 @@ fn write_address(out: &mut String, addr: Addr) -> Result<(), AllocError>
     let third = addr.0 / 256 % 256;
     let fourth = addr.0 % 256;
     write!(out, "{first}.{second}.{third}.{fourth}")
+}
+
+/// An origin and a group, each behind a space.
+fn write_pair(out: &mut String, src: Addr, dst: Addr) -> Result<(), AllocError>
+    ensures { OnOk result (string_bytes out.new ≡ string_bytes out.old ++ 32 ∷ address src ++ 32 ∷ address dst) }
+{
+    out.push_str(" ")?;
+    write_address(out, src)?;
+    out.push_str(" ")?;
+    write_address(out, dst)?;
+    Ok(())
 }
 
 /// A space and `V:T`, for a threshold T that isn't 0.
@@ -121,15 +132,40 @@ fn write_init(out: &mut String, number: u64, daemon: DaemonNo) -> Result<(), All
     write!(out, "{number} call {daemon} init = ok\n")
 }
 
-/// The line of a good AddVif by a device's number.
+/// The local field of a vif.
+#[tactic(auto, unfolding(crate::specs::Text::local_word))]
+fn write_local(out: &mut String, ctl: &VifCtl) -> Result<(), AllocError>
+    ensures { OnOk result (string_bytes out.new ≡ string_bytes out.old ++ local_word ctl.now) }
+{
+    if ctl.flags == 8 {
+        let local = ctl.local;
+        write!(out, "@{local}")
+    } else {
+        write_address(out, Addr(ctl.local))
+    }
+}
+
+/// The line of a good AddVif.
 fn write_add_vif(out: &mut String, number: u64, daemon: DaemonNo, ctl: &VifCtl) -> Result<(), AllocError>
-    requires { ctl.now.flags ≡ 8 }
     ensures { OnOk result (string_bytes out.new ≡ string_bytes out.old ++ entry_text number (Call daemon (AddVif ctl.now) Good [])) }
 {
     let daemon = daemon.0;
     let vif = ctl.vif;
-    let local = ctl.local;
-    write!(out, "{number} call {daemon} addvif {vif} 8 @{local} = ok\n")?;
+    let flags = ctl.flags;
+    write!(out, "{number} call {daemon} addvif {vif} {flags} ")?;
+    write_local(out, ctl)?;
+    out.push_str(" = ok\n")?;
+    Ok(())
+}
+
+/// The words of an entry, each behind a space.
+fn write_route_words(out: &mut String, ctl: &MfcCtl) -> Result<(), AllocError>
+    ensures { OnOk result (string_bytes out.new ≡ string_bytes out.old ++ 32 ∷ address ctl.now.src ++ 32 ∷ address ctl.now.dst ++ 32 ∷ decimal ctl.now.parent ++ flat_map (λ w. 32 ∷ w) (thresholds 0 ctl.now.ttls)) }
+{
+    let parent = ctl.parent;
+    write_pair(out, ctl.src, ctl.dst)?;
+    write!(out, " {parent}")?;
+    write_thresholds(out, &ctl.ttls)?;
     Ok(())
 }
 
@@ -138,13 +174,8 @@ fn write_add_mfc(out: &mut String, number: u64, daemon: DaemonNo, ctl: &MfcCtl) 
     ensures { OnOk result (string_bytes out.new ≡ string_bytes out.old ++ entry_text number (Call daemon (AddMfc ctl.now) Good [])) }
 {
     let daemon = daemon.0;
-    let parent = ctl.parent;
-    write!(out, "{number} call {daemon} addmfc ")?;
-    write_address(out, ctl.src)?;
-    out.push_str(" ")?;
-    write_address(out, ctl.dst)?;
-    write!(out, " {parent}")?;
-    write_thresholds(out, &ctl.ttls)?;
+    write!(out, "{number} call {daemon} addmfc")?;
+    write_route_words(out, ctl)?;
     out.push_str(" = ok\n")?;
     Ok(())
 }
@@ -225,10 +256,8 @@ fn write_route(out: &mut String, route: &Route, totals: &RouteTotals) -> Result<
         bytes,
         wrong,
     } = *totals;
-    write!(out, "route {number} ")?;
-    write_address(out, route.src)?;
-    out.push_str(" ")?;
-    write_address(out, route.dst)?;
+    write!(out, "route {number}")?;
+    write_pair(out, route.src, route.dst)?;
     write!(out, " {parent} {packets} {bytes} {wrong}\n")?;
     Ok(())
 }
