@@ -12,3 +12,4 @@ pub mod Phases
 pub mod FitsDraft
 pub mod Running
 pub mod TableLemmas
+pub mod WritingLemmas

@@ -46,21 +46,21 @@ abbrev pub line : List Word → List ℕ
 line ws = join_with_byte 32 ws ++ 10 ∷ []
 
 -- a.b.c.d
-abbrev pub address : Addr → Word
+unfoldable pub address : Addr → Word
 address a =
     decimal (a.0 / 16777216) ++ 46 ∷ decimal (a.0 / 65536 % 256) ++ 46 ∷ decimal (a.0 / 256 % 256) ++ 46 ∷ decimal (a.0 % 256)
 
 -- the vifs of a mask in rising order, parted by commas, or `-`
-abbrev pub mask : Mask → Word
+unfoldable pub mask : Mask → Word
 mask m = if m.0 == 0 then codes "-" else join_with_byte 44 (map decimal (filter (is_in m) indexes))
 
 -- a vif, or `-`
-abbrev pub vif_or_none : Option ℕ → Word
+unfoldable pub vif_or_none : Option ℕ → Word
 vif_or_none None = codes "-"
 vif_or_none (Some i) = decimal i
 
 -- the local field: `@N` with flags 8, else an address
-abbrev pub local_word : VifCtl → Word
+unfoldable pub local_word : VifCtl → Word
 local_word c = if c.flags == 8 then 64 ∷ decimal c.local else address (record { 0 = c.local })
 
 -- `V:T` for each threshold that isn't 0, from vif i on
@@ -169,13 +169,14 @@ abbrev pub route_line : (Route × RouteTotals) → List ℕ
 route_line p =
     line (codes "route" ∷ decimal p.0.number ∷ address p.0.src ∷ address p.0.dst ∷ decimal p.0.parent ∷ route_total_words p.1)
 
+-- the name of the device of a number, from 1
+abbrev pub name_at : List Named → ℕ → Word
+name_at [] dev = []
+name_at (d ∷ ds) dev = if dev == 1 then d.name else name_at ds (dev - 1)
+
 -- the name of a vif's device; the register device's is `pimreg`
 abbrev pub device_word : List Named → VifRecord → Word
 device_word devices v = if v.register then codes "pimreg" else name_at devices v.dev
-  where
-    name_at : List Named → ℕ → Word
-    name_at [] dev = []
-    name_at (d ∷ ds) dev = if dev == 1 then d.name else name_at ds (dev - 1)
 
 abbrev pub vif_line : List Named → (VifRecord × VifTotals) → List ℕ
 vif_line devices p = line (codes "vif" ∷ decimal p.0.vif ∷ device_word devices p.0 ∷ vif_total_words p.1)

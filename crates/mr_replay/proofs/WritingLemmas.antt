@@ -1,0 +1,63 @@
+-- Texts of lists.
+use Rattle.std.proofs.Common.{◌≡◌, ℕ, Bool, true, false, List, [], ◌∷◌, ◌++◌, map, filter, decimal, codes, length, get_or, drop, ◌<◌, ◌+◌, subst, refl, sym, ap, ◌∙◌}
+use Rattle.std.proofs.lemmas.List.{append_assoc, append-nil, drop_more}
+use Rattle.std.specs.Prelude.{flat_map, if◌then◌else◌}
+use Rattle.std.specs.List.{join_with_byte, AllByRecursion}
+use Rattle.mr_base.specs.declared.numbers.Mask.{Mask}
+use Rattle.mr_model.specs.Verdict.{is_in}
+use Rattle.mr_replay.specs.Text.{Word, line}
+
+-- words, the first of which may stand without its comma
+abbrev pub commas : Bool → List (List ℕ) → List ℕ
+commas true ws = join_with_byte 44 ws
+commas false ws = flat_map (λ w. 44 ∷ w) ws
+
+abbrev pub items : Bool → Mask → List ℕ → List ℕ
+items first outs is = commas first (map decimal (filter (is_in outs) is))
+
+-- joined words are the first, and the others behind their bytes
+pub joined : (c : ℕ) (w : List ℕ) (ws : List (List ℕ)) → join_with_byte c (w ∷ ws) ≡ w ++ flat_map (λ v. c ∷ v) ws
+joined c w [] = sym (append-nil w)
+joined c w (v ∷ ws) = ap (λ x. w ++ c ∷ x) (joined c v ws)
+
+-- joined words before a good reply
+pub joined_good : (w : List ℕ) (ws : List (List ℕ)) → join_with_byte 32 (w ∷ (ws ++ (61 ∷ []) ∷ (111 ∷ 107 ∷ []) ∷ [])) ≡ w ++ (flat_map (λ v. 32 ∷ v) ws ++ 32 ∷ 61 ∷ 32 ∷ 111 ∷ 107 ∷ [])
+joined_good w [] = refl
+joined_good w (v ∷ ws) =
+    ap (λ x. w ++ 32 ∷ x) (joined_good v ws ∙ sym (append_assoc v (flat_map (λ v. 32 ∷ v) ws) (32 ∷ 61 ∷ 32 ∷ 111 ∷ 107 ∷ [])))
+
+-- the line of a good AddMfc
+pub mfc_line : (n d s g p : Word) (ts : List Word) → line (n ∷ codes "call" ∷ d ∷ codes "addmfc" ∷ s ∷ g ∷ p ∷ (ts ++ codes "=" ∷ codes "ok" ∷ [])) ++ []
+    ≡ n ++ 32 ∷ 99 ∷ 97 ∷ 108 ∷ 108 ∷ 32 ∷ (d ++ 32 ∷ 97 ∷ 100 ∷ 100 ∷ 109 ∷ 102 ∷ 99 ∷ 32 ∷ (s ++ 32 ∷ (g ++ 32 ∷ (p ++ (flat_map (λ v. 32 ∷ v) ts ++ 32 ∷ 61 ∷ 32 ∷ 111 ∷ 107 ∷ 10 ∷ [])))))
+mfc_line n d s g p ts = rw (joined_good p ts) (simp (append_assoc, append-nil))
+
+regroup : (o n l d m s g p r t : List ℕ) → o ++ (n ++ (l ++ (d ++ m))) ++ s ++ g ++ p ++ r ++ t ≡ o ++ (n ++ (l ++ (d ++ (m ++ (s ++ (g ++ (p ++ (r ++ t))))))))
+regroup o n l d m s g p r t = simp append_assoc
+
+pub mfc_text : (o x y z : List ℕ) (n d s g p : Word) (ts : List Word) → x ≡ o ++ (n ++ 32 ∷ 99 ∷ 97 ∷ 108 ∷ 108 ∷ 32 ∷ (d ++ 32 ∷ 97 ∷ 100 ∷ 100 ∷ 109 ∷ 102 ∷ 99 ∷ []))
+    → y ≡ x ++ 32 ∷ s ++ 32 ∷ g ++ 32 ∷ p ++ flat_map (λ v. 32 ∷ v) ts → z ≡ y ++ 32 ∷ 61 ∷ 32 ∷ 111 ∷ 107 ∷ 10 ∷ []
+    → z ≡ o ++ (line (n ∷ codes "call" ∷ d ∷ codes "addmfc" ∷ s ∷ g ∷ p ∷ (ts ++ codes "=" ∷ codes "ok" ∷ [])) ++ [])
+mfc_text o x y z n d s g p ts e f h = rw (h, f, e, mfc_line n d s g p ts) 
+    (regroup o n (32 ∷ 99 ∷ 97 ∷ 108 ∷ 108 ∷ 32 ∷ []) d (32 ∷ 97 ∷ 100 ∷ 100 ∷ 109 ∷ 102 ∷ 99 ∷ []) (32 ∷ s) (32 ∷ g) (32 ∷ p) (flat_map (λ v. 32 ∷ v) ts) (32 ∷ 61 ∷ 32 ∷ 111 ∷ 107 ∷ 10 ∷ []))
+
+-- one more word
+pub commas_on : (first : Bool) (w : List ℕ) (ws : List (List ℕ)) → commas first (w ∷ ws) ≡ (if first then [] else 44 ∷ []) ++ (w ++ commas false ws)
+commas_on true w ws = joined 44 w ws
+commas_on false w ws = refl
+
+-- one more vif
+pub items_on : (first : Bool) (outs : Mask) (i : ℕ) (is : List ℕ) → items first outs (i ∷ is) ≡ (if is_in outs i then (if first then [] else 44 ∷ []) ++ decimal i else []) ++ items (if is_in outs i then false else first) outs is
+items_on first outs i is = by_case (is_in outs i) refl
+  where
+    by_case : (b : Bool) → is_in outs i ≡ b → items first outs (i ∷ is) ≡ (if b then (if first then [] else 44 ∷ []) ++ decimal i else []) ++ items (if b then false else first) outs is
+    by_case true e =
+        rw e (commas_on first (decimal i) (map decimal (filter (is_in outs) is)) ∙ sym (append_assoc (if first then [] else 44 ∷ []) (decimal i) (commas false (map decimal (filter (is_in outs) is)))))
+    by_case false e = rw e refl
+
+-- a step over the vifs of a mask
+pub items_step : (outs : Mask) (first f : Bool) (k : ℕ) (is : List ℕ) (o p t : List ℕ) → k < length is → p ≡ o ++ (if is_in outs (get_or is k 0) then (if first then [] else 44 ∷ []) ++ decimal (get_or is k 0) else []) → f ≡ (if is_in outs (get_or is k 0) then false else first) → o ++ items first outs (drop k is) ≡ t → p ++ items f outs (drop (k + 1) is) ≡ t
+items_step outs first f k is o p t l e g h =
+    rw (e, g) (append_assoc o _ _ ∙ ap (λ x. o ++ x) (sym (items_on first outs (get_or is k 0) (drop (k + 1) is))) ∙ ap (λ x. o ++ items first outs x) (sym (drop_more is k 0 l)) ∙ h)
+
+pub fits_step : (k : ℕ) (is : List ℕ) → k < length is → AllByRecursion (λ i. i < 32) (drop k is) → AllByRecursion (λ i. i < 32) (drop (k + 1) is)
+fits_step k is l h = (subst (λ x. AllByRecursion (λ i. i < 32) x) (drop_more is k 0 l) h).1
