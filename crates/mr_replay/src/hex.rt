@@ -42,7 +42,9 @@ pub fn hex_of(alloc: Global, word: &[u8]) -> Result<List<u8>, Refusal>
     let mut bytes = Vec::with_capacity(alloc, word.len() / 2)?;
     let mut rest = word;
     'pairs: while let [high, low, after @ ..] = rest {
-        let byte = byte_of(*high, *low).ok_or(Refusal::NotBuilt)?;
+        let Some(byte) = byte_of(*high, *low) else {
+            return Err(Refusal::NotBuilt);
+        };
         bytes.push(byte)?;
         rest = after;
     }
