@@ -1,6 +1,6 @@
 //! The lines before the phases.
 
-ghost use Rattle.std.specs.Prelude.{◌≡◌, None, [], ◌∷◌, MatchOption};
+ghost use Rattle.std.specs.Prelude.{◌≡◌, ◌≤◌, None, [], ◌∷◌, length, MatchOption, OnOk};
 ghost use Rattle.mr_replay.specs.Answers.{Steps};
 ghost use Rattle.mr_replay.specs.Words.{words_of};
 ghost use Rattle.mr_replay.specs.Spelled.{one_of, two_of, header_line, device_line, daemon_head};
@@ -37,7 +37,8 @@ pub fn one_word(words: &[u8]) -> Option<&[u8]>
 
 /// `scenario 1`.
 pub fn header_line(draft: &mut Draft, words: &[u8]) -> Result<(), Refusal>
-    ensures { Steps result draft.new (header_line draft.old (words_of words.now)) }
+    ensures line { Steps result draft.new (header_line draft.old (words_of words.now)) }
+    ensures devices { OnOk result (draft.new.devices ≡ draft.old.devices) }
 {
     let (a, b) = two_words(words).ok_or(Refusal::NotBuilt)?;
     if a != b"scenario".as_slice() || b != b"1".as_slice() {
@@ -49,7 +50,8 @@ pub fn header_line(draft: &mut Draft, words: &[u8]) -> Result<(), Refusal>
 
 /// `device NAME ADDRESS`: the words behind the first.
 pub fn device_line(draft: &mut Draft, words: &[u8]) -> Result<(), Refusal>
-    ensures { Steps result draft.new (device_line draft.old (words_of words.now)) }
+    ensures line { Steps result draft.new (device_line draft.old (words_of words.now)) }
+    ensures few { OnOk result (length draft.new.devices ≤ 64) }
 {
     let (name, addr) = two_words(words).ok_or(Refusal::NotBuilt)?;
     if draft.current.is_some() {
@@ -71,7 +73,8 @@ pub fn device_line(draft: &mut Draft, words: &[u8]) -> Result<(), Refusal>
 
 /// `daemon admin`: the words behind the first.
 pub fn daemon_head(draft: &mut Draft, words: &[u8]) -> Result<(), Refusal>
-    ensures { Steps result draft.new (daemon_head draft.old (words_of words.now)) }
+    ensures line { Steps result draft.new (daemon_head draft.old (words_of words.now)) }
+    ensures devices { OnOk result (draft.new.devices ≡ draft.old.devices) }
 {
     let kind = one_word(words).ok_or(Refusal::NotBuilt)?;
     if kind != b"admin".as_slice() || !draft.daemons.0.is_empty() {

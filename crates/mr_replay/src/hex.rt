@@ -1,6 +1,6 @@
 //! Bytes that hex digits spell.
 
-ghost use Rattle.std.specs.Prelude.{◌≡◌, ◌+◌, ◌*◌, option_and_then, option_map};
+ghost use Rattle.std.specs.Prelude.{◌≡◌, ◌+◌, ◌*◌, option_and_then, option_map, unwrap_or};
 ghost use Rattle.mr_replay.specs.Answers.{Reads};
 ghost use Rattle.mr_replay.specs.Forms.{hex_digit, hex_of};
 
@@ -8,28 +8,40 @@ use crate::stop::Refusal;
 use mr_base::List;
 use std::alloc::Global;
 
-/// The value of a hex digit.
-fn digit(b: u8) -> Option<u8>
-    ensures { result ≡ hex_digit b }
+/// The value of each byte as a hex digit; 256 for one that is none.
+#[rattlefmt::skip]
+const DIGITS: [u16; 256] = [
+    256, 256, 256, 256, 256, 256, 256, 256, 256, 256, 256, 256, 256, 256, 256, 256,
+    256, 256, 256, 256, 256, 256, 256, 256, 256, 256, 256, 256, 256, 256, 256, 256,
+    256, 256, 256, 256, 256, 256, 256, 256, 256, 256, 256, 256, 256, 256, 256, 256,
+    0, 1, 2, 3, 4, 5, 6, 7, 8, 9, 256, 256, 256, 256, 256, 256,
+    256, 10, 11, 12, 13, 14, 15, 256, 256, 256, 256, 256, 256, 256, 256, 256,
+    256, 256, 256, 256, 256, 256, 256, 256, 256, 256, 256, 256, 256, 256, 256, 256,
+    256, 10, 11, 12, 13, 14, 15, 256, 256, 256, 256, 256, 256, 256, 256, 256,
+    256, 256, 256, 256, 256, 256, 256, 256, 256, 256, 256, 256, 256, 256, 256, 256,
+    256, 256, 256, 256, 256, 256, 256, 256, 256, 256, 256, 256, 256, 256, 256, 256,
+    256, 256, 256, 256, 256, 256, 256, 256, 256, 256, 256, 256, 256, 256, 256, 256,
+    256, 256, 256, 256, 256, 256, 256, 256, 256, 256, 256, 256, 256, 256, 256, 256,
+    256, 256, 256, 256, 256, 256, 256, 256, 256, 256, 256, 256, 256, 256, 256, 256,
+    256, 256, 256, 256, 256, 256, 256, 256, 256, 256, 256, 256, 256, 256, 256, 256,
+    256, 256, 256, 256, 256, 256, 256, 256, 256, 256, 256, 256, 256, 256, 256, 256,
+    256, 256, 256, 256, 256, 256, 256, 256, 256, 256, 256, 256, 256, 256, 256, 256,
+    256, 256, 256, 256, 256, 256, 256, 256, 256, 256, 256, 256, 256, 256, 256, 256,
+];
+
+/// The value of a hex digit; 256 for a byte that is none.
+fn digit(b: u8) -> u16
+    ensures { result ≡ unwrap_or (hex_digit b) 256 }
 {
-    if b'0' <= b && b <= b'9' {
-        Some(b - b'0')
-    } else if b'a' <= b && b <= b'f' {
-        Some(b - 87)
-    } else if b'A' <= b && b <= b'F' {
-        Some(b - 55)
-    } else {
-        None
-    }
+    DIGITS[usize::from(b)]
 }
 
 /// The byte that two hex digits spell.
 fn byte_of(high: u8, low: u8) -> Option<u8>
     ensures { result ≡ option_and_then (λ h. option_map (λ l. h * 16 + l) (hex_digit low)) (hex_digit high) }
 {
-    let h = digit(high)?;
-    let l = digit(low)?;
-    Some(h * 16 + l)
+    let value = digit(high) * 16 + digit(low);
+    if value < 256 { Some(value as u8) } else { None }
 }
 
 /// The bytes that a word of hex digits spells, two digits each.
@@ -42,7 +54,9 @@ pub fn hex_of(alloc: Global, word: &[u8]) -> Result<List<u8>, Refusal>
     let mut bytes = Vec::with_capacity(alloc, word.len() / 2)?;
     let mut rest = word;
     'pairs: while let [high, low, after @ ..] = rest {
-        let byte = byte_of(*high, *low).ok_or(Refusal::NotBuilt)?;
+        let Some(byte) = byte_of(*high, *low) else {
+            return Err(Refusal::NotBuilt);
+        };
         bytes.push(byte)?;
         rest = after;
     }

@@ -151,7 +151,8 @@ fn push_line(draft: &mut Draft, phase: Phase, line: ScriptLine) -> Result<(), Al
 
 /// `daemon D OP ..` in a phase: the words behind the first.
 fn script_line(line: u32, draft: &mut Draft, phase: Phase, words: &[u8]) -> Result<(), Refusal>
-    ensures { Steps result draft.new (script_line line draft.old phase (words_of words.now)) }
+    ensures line { Steps result draft.new (script_line line draft.old phase (words_of words.now)) }
+    ensures devices { OnOk result (draft.new.devices ≡ draft.old.devices) }
 {
     let (number, rest) = next_word(words).ok_or(Refusal::NotBuilt)?;
     let daemon = number_of(number, 8).ok_or(Refusal::NotBuilt)?;
@@ -174,7 +175,8 @@ fn script_line(line: u32, draft: &mut Draft, phase: Phase, words: &[u8]) -> Resu
 
 /// `daemon ..`: a head line, or in a phase a script line.
 pub fn daemon_line(line: u32, draft: &mut Draft, words: &[u8]) -> Result<(), Refusal>
-    ensures { Steps result draft.new (daemon_line_in line draft.old draft.old.current (words_of words.now)) }
+    ensures line { Steps result draft.new (daemon_line_in line draft.old draft.old.current (words_of words.now)) }
+    ensures devices { OnOk result (draft.new.devices ≡ draft.old.devices) }
 {
     if draft.current.is_none() {
         return daemon_head(draft, words);
@@ -197,7 +199,8 @@ pub fn close_phase(draft: &mut Draft) -> Result<(), AllocError>
 
 /// `phase`: the words behind it.
 pub fn phase_line(alloc: Global, line: u32, draft: &mut Draft, words: &[u8]) -> Result<(), Refusal>
-    ensures { Steps result draft.new (phase_line line draft.old (words_of words.now)) }
+    ensures line { Steps result draft.new (phase_line line draft.old (words_of words.now)) }
+    ensures devices { OnOk result (draft.new.devices ≡ draft.old.devices) }
 {
     if next_word(words).is_some() {
         return Err(Refusal::NotBuilt);
@@ -242,7 +245,8 @@ fn packet_line(
     dev: u32,
     bytes: List<u8>,
 ) -> Result<(), Refusal>
-    ensures { Steps result draft.new (packet_line line draft.old phase dev bytes) }
+    ensures line { Steps result draft.new (packet_line line draft.old phase dev bytes) }
+    ensures devices { OnOk result (draft.new.devices ≡ draft.old.devices) }
 {
     if !is_accepted(bytes.0.as_slice()) || draft.sent >= 1_048_576 {
         return Err(Refusal::NotBuilt);
@@ -269,7 +273,8 @@ fn packet_of_words(
     words: &[u8],
 ) -> Result<(), Refusal>
     requires { length draft.old.devices ≤ 64 }
-    ensures { Steps result draft.new (option_and_then (packet_of_words line draft.old phase) (four_words (words_of words.now))) }
+    ensures line { Steps result draft.new (option_and_then (packet_of_words line draft.old phase) (four_words (words_of words.now))) }
+    ensures devices { OnOk result (draft.new.devices ≡ draft.old.devices) }
 {
     let (lane, op, name, digits) = four_words(words).ok_or(Refusal::NotBuilt)?;
     if lane != b"1".as_slice() || op != b"pkt".as_slice() {
@@ -283,7 +288,8 @@ fn packet_of_words(
 /// `lane ..`: in a phase alone.
 pub fn lane_line(alloc: Global, line: u32, draft: &mut Draft, words: &[u8]) -> Result<(), Refusal>
     requires { length draft.old.devices ≤ 64 }
-    ensures { Steps result draft.new (lane_line_in line draft.old draft.old.current (words_of words.now)) }
+    ensures line { Steps result draft.new (lane_line_in line draft.old draft.old.current (words_of words.now)) }
+    ensures devices { OnOk result (draft.new.devices ≡ draft.old.devices) }
 {
     match draft.current.take() {
         None => Err(Refusal::NotBuilt),

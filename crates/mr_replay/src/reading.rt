@@ -1,6 +1,6 @@
 //! A scenario is read from its bytes.
 
-ghost use Rattle.std.specs.Prelude.{◌≡◌, map, IfOk};
+ghost use Rattle.std.specs.Prelude.{◌≡◌, ◌≤◌, length, map, IfOk, OnOk};
 ghost use Rattle.mr_replay.specs.Answers.{Steps, Gives};
 ghost use Rattle.mr_replay.specs.Words.{words_of, lines_of};
 ghost use Rattle.mr_replay.specs.Spelled.{line_by_word, line_of, draft_from, empty_draft, is_admin_kind, device_of, whole, spelled};
@@ -8,7 +8,7 @@ ghost use Rattle.mr_replay.specs.Spelled.{line_by_word, line_of, draft_from, emp
 use crate::cursor::{next_word, split_line, trimmed};
 use crate::draft::Draft;
 use crate::head_lines::{device_line, header_line};
-use crate::phase_lines::{close_phase, daemon_line, phase_line};
+use crate::phase_lines::{close_phase, daemon_line, lane_line, phase_line};
 use crate::scenario::{DaemonKind, Named, Scenario};
 use crate::stop::{Refusal, Stop};
 use mr_base::{Device, List};
@@ -23,7 +23,9 @@ fn line_by_word(
     word: &[u8],
     words: &[u8],
 ) -> Result<(), Refusal>
-    ensures { Steps result draft.new (line_by_word line draft.old word.now (words_of words.now)) }
+    requires { length draft.old.devices ≤ 64 }
+    ensures line { Steps result draft.new (line_by_word line draft.old word.now (words_of words.now)) }
+    ensures few { OnOk result (length draft.new.devices ≤ 64) }
 {
     if word == b"device".as_slice() {
         device_line(draft, words)
@@ -31,6 +33,8 @@ fn line_by_word(
         daemon_line(line, draft, words)
     } else if word == b"phase".as_slice() {
         phase_line(alloc, line, draft, words)
+    } else if word == b"lane".as_slice() {
+        lane_line(alloc, line, draft, words)
     } else {
         Err(Refusal::NotBuilt)
     }
@@ -38,7 +42,9 @@ fn line_by_word(
 
 /// A line of a scenario. A line without words is passed over.
 fn line_of(alloc: Global, line: u32, draft: &mut Draft, words: &[u8]) -> Result<(), Refusal>
-    ensures { Steps result draft.new (line_of line draft.old (words_of words.now)) }
+    requires { length draft.old.devices ≤ 64 }
+    ensures line { Steps result draft.new (line_of line draft.old (words_of words.now)) }
+    ensures few { OnOk result (length draft.new.devices ≤ 64) }
 {
     match next_word(words) {
         None => Ok(()),
@@ -119,7 +125,7 @@ fn whole(alloc: Global, draft: Draft) -> Result<Scenario, Stop>
     let mut draft = draft;
     close_phase(&mut draft)?;
     let mut packets = Vec::with_capacity(alloc, 1)?;
-    packets.push(0)?;
+    packets.push(draft.sent)?;
     let limits = Limits {
         entries: 1024,
         unresolved: 10,
