@@ -1,0 +1,13 @@
+//! Worked histories of the one-thread multicast machine, each shown to be legal and to have its ending
+//! by computing the definitions of `mr_model` on it.
+#![tactic(auto)]
+
+mod control;
+mod forwarding;
+mod reports;
+mod waiting;
+
+pub use control::{control_errors, counters_start_again, static_by_caller};
+pub use forwarding::{ordinary_path, proxy_entry, star_entry, thresholds, two_vifs_on_a_device, vif_added_later};
+pub use reports::{register_copies_lost, register_report, wrong_interface};
+pub use waiting::{expiry, nobody_owns, waiting_entries_full, waiting_packets_released, wildcard_releases_nothing};
