@@ -16,3 +16,4 @@ pub mod CountersStartAgain
 pub mod WildcardReleasesNothing
 pub mod WaitingEntriesFull
 pub mod RegisterCopiesLost
+pub mod NearMisses

@@ -22,8 +22,7 @@ pub fn control_errors()
     ensures owner { owner errors.history ≡ Some (daemon 1) }
     ensures vifs { vifs errors.limits errors.history ≡ register 5 10 ∷ vif 0 1 14 ∷ [] }
     ensures pim { pim errors.history ≡ false }
-{
-}
+{}
 
 /// An entry that is deleted and added again counts from nothing, while the vifs keep what they counted.
 pub fn counters_start_again()
@@ -31,8 +30,7 @@ pub fn counters_start_again()
     ensures ending { ending again.limits again.history ≡ again.tail }
     ensures changes { changes again.history ≡ again.changed }
     ensures first_entry { route_counts again.history 4 ≡ route_totals 1 28 0 }
-{
-}
+{}
 
 /// What another admin adds is static and stays when the owner leaves. The owner's own entry and vifs go, and
 /// the packet that waited is dropped.
@@ -41,5 +39,4 @@ pub fn static_by_caller()
     ensures ending { ending leaving.limits leaving.history ≡ leaving.tail }
     ensures owner_before { owner leaving.before_leaving ≡ Some (daemon 1) }
     ensures owner_after { owner leaving.history ≡ None }
-{
-}
+{}

@@ -27,23 +27,20 @@ pub fn ordinary_path()
     ensures fast_lively { IsLively ordinary.limits ordinary.fast_history }
     ensures fast_ending { ending ordinary.limits ordinary.fast_history ≡ ordinary.tail }
     ensures fast_unfolded { unfolded ordinary.fast_history ≡ ordinary.steps }
-{
-}
+{}
 
 /// A packet goes out where its TTL is greater than the threshold, and not where it is equal or less. It
 /// counts also where it goes nowhere.
 pub fn thresholds()
     ensures legal { IsLegal levels.limits levels.history }
     ensures ending { ending levels.limits levels.history ≡ levels.tail }
-{
-}
+{}
 
 /// The thresholds 0 and 255 mean none, and so does any threshold of a vif that is added later than the entry.
 pub fn vif_added_later()
     ensures legal { IsLegal later.limits later.history }
     ensures ending { ending later.limits later.history ≡ later.tail }
-{
-}
+{}
 
 /// An entry for any origin takes a packet that comes in on a vif of the parent's proxy entry. It counts in on
 /// the parent, and goes out on all other vifs but the one on which it came. Without such an entry the proxy
@@ -55,16 +52,14 @@ pub fn star_entry()
     ensures proxy { proxy star.limits star.start 1 ≡ Some star.proxy_route }
     ensures judge { judge star.limits star.start star.proxy_route 2 9 ≡ verdict.Forward 5 (Some 0) (mask (0 ∷ [])) }
     ensures verdict { verdict_after star.limits star.start 2 (addr 10 0 1 9) group 9 ≡ verdict.Forward 6 (Some 0) (mask (0 ∷ 2 ∷ [])) }
-{
-}
+{}
 
 /// A proxy entry takes the packets that meet no other. It sends on its parent alone, and not where they came
 /// in on it.
 pub fn proxy_entry()
     ensures legal { IsLegal proxied.limits proxied.history }
     ensures ending { ending proxied.limits proxied.history ≡ proxied.tail }
-{
-}
+{}
 
 /// Where two vifs are on one device, a packet goes out on both, and one that comes in on the device and
 /// misses is reported with the higher one. The report is unread until the owner takes it.
@@ -73,5 +68,4 @@ pub fn two_vifs_on_a_device()
     ensures ending { ending two.limits two.history ≡ two.tail }
     ensures unread_before { unread two.limits two.before_receive ≡ two.miss ∷ [] }
     ensures unread_after { unread two.limits two.history ≡ [] }
-{
-}
+{}

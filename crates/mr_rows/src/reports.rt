@@ -21,15 +21,13 @@ pub fn wrong_interface()
     ensures first_attempt { attempt wrong.three_seconds_later 5 ≡ Some 0 }
     ensures last_attempt { attempt wrong.history 5 ≡ Some 3001 }
     ensures other_entry { attempt wrong.history 4 ≡ None }
-{
-}
+{}
 
 /// A copy on the register vif counts there, and is told to the owner as the whole packet.
 pub fn register_report()
     ensures legal { IsLegal copy.limits copy.history }
     ensures ending { ending copy.limits copy.history ≡ copy.tail }
-{
-}
+{}
 
 /// With 64 unread reports a further copy is lost, though it counts, and a packet that misses is dropped.
 pub fn register_copies_lost()
@@ -37,5 +35,4 @@ pub fn register_copies_lost()
     ensures ending { ending lost.limits lost.history ≡ lost.tail }
     ensures accepts { accepts lost.limits lost.start ≡ true }
     ensures accepts_none { accepts lost.limits lost.history ≡ false }
-{
-}
+{}

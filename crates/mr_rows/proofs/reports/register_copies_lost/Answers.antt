@@ -1,6 +1,5 @@
 -- The 73 entries in parts, since one search computes no more than some thirty.
-use Rattle.std.proofs.Common.{rules, List, [], take, drop, ◌++◌}
-use Rattle.mr_model.specs.declared.entry.Entry.{Entry}
+use Rattle.std.proofs.Common.{rules, [], take, drop}
 use Rattle.mr_model.specs.Legal.{LegalFrom}
 use Rattle.mr_rows.specs.RegisterCopiesLost.{limits, history}
 use Rattle.mr_rows.proofs.Parts.{legal_joined}
