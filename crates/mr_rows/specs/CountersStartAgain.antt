@@ -1,5 +1,5 @@
 -- An entry that is deleted and added again is a new one, with counters of its own.
-use Rattle.std.specs.Prelude.{List, [], ◌∷◌, ◌++◌}
+use Rattle.std.specs.Prelude.{List, [], ◌∷◌, ◌++◌, take, drop}
 use Rattle.mr_model.specs.Changes.{GoodCall}
 use Rattle.mr_model.specs.declared.ending.Ending.{Ending}
 use Rattle.mr_model.specs.declared.entry.Entry.{Entry}
@@ -8,7 +8,7 @@ use Rattle.mr_model.specs.declared.limits.Limits.{Limits}
 use Rattle.mr_model.specs.declared.reply.Reply.TheVariants.{Sg}
 use Rattle.mr_model.specs.declared.request.Request.{Request}
 use Rattle.mr_model.specs.declared.request.Request.TheVariants.{DelMfc, SgCount}
-use Rattle.mr_rows.specs.Samples.{source, group, usual, daemon, add_vif, add_mfc, key, call, good, opening, packet, slow, forward, route, vif, route_totals, vif_totals}
+use Rattle.mr_rows.specs.Samples.{source, group, usual, daemon, add_vif, add_mfc, key, call, good, opening, packet, slow, forward, route, vif, route_totals, vif_totals, fast, settle}
 
 abbrev pub limits : Limits
 limits = usual 3 1 (0 ∷ 1 ∷ [])
@@ -32,6 +32,10 @@ count = SgCount source group
 
 abbrev pub history : List Entry
 history = made_again ++ call 1 count (Sg (route_totals 0 0 0)) ∷ EndPhase ∷ []
+
+-- the same with plainly forwarded packets that were decided without the lock
+abbrev pub fast_history : List Entry
+fast_history = take 5 history ++ settle (fast 1 5 (packet 1 source group 9) 4 0 (1 ∷ []) ∷ []) ∷ drop 6 history
 
 abbrev pub tail : Ending
 tail = record {

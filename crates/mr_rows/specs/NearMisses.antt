@@ -186,7 +186,7 @@ abbrev pub second_settle : Entry
 second_settle = Settle (lane 1) (record ordinary.fast_record { index = 2; look = 6 } ∷ [])
 
 abbrev pub split_settles : List Entry
-split_settles = ordinary.start ++ ordinary.settle ∷ second_settle ∷ EndPhase ∷ []
+split_settles = ordinary.start ++ ordinary.settled ∷ second_settle ∷ EndPhase ∷ []
 
 -- the limits of the ordinary history with no packet, one phase, and three control entries
 abbrev pub no_packets : Limits

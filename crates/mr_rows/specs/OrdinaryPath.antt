@@ -1,15 +1,15 @@
 -- A packet that meets its entry and goes out on one vif.
-use Rattle.std.specs.Prelude.{Some, List, [], ◌∷◌, ◌++◌}
+use Rattle.std.specs.Prelude.{List, [], ◌∷◌, ◌++◌}
 use Rattle.mr_model.specs.declared.ending.Ending.{Ending}
 use Rattle.mr_model.specs.declared.entry.Entry.{Entry}
-use Rattle.mr_model.specs.declared.entry.Entry.TheVariants.{Settle, EndPhase}
+use Rattle.mr_model.specs.declared.entry.Entry.TheVariants.{EndPhase}
 use Rattle.mr_model.specs.declared.entry.FastRecord.{FastRecord}
 use Rattle.mr_model.specs.declared.flow.Flow.{Flow}
 use Rattle.mr_model.specs.declared.limits.Limits.{Limits}
+use Rattle.mr_model.specs.declared.request.Request.TheVariants.{Init}
 use Rattle.mr_model.specs.declared.step.Step.{Step}
 use Rattle.mr_model.specs.declared.step.Step.TheVariants.{Fast, Kept}
-use Rattle.mr_model.specs.declared.request.Request.TheVariants.{Init}
-use Rattle.mr_rows.specs.Samples.{usual, source, group, lane, mask, add_vif, add_mfc, good, opening, packet, slow, forward, route, route_totals, vif, vif_totals}
+use Rattle.mr_rows.specs.Samples.{source, group, usual, lane, add_vif, add_mfc, good, opening, packet, slow, forward, route, vif, route_totals, vif_totals, fast, settle}
 
 abbrev pub limits : Limits
 limits = usual 2 1 (0 ∷ 1 ∷ [])
@@ -26,21 +26,21 @@ abbrev pub history : List Entry
 history = start ++ slow 1 5 only_packet (forward 4 0 (1 ∷ [])) ∷ EndPhase ∷ []
 
 abbrev pub fast_record : FastRecord
-fast_record = record { index = 1; look = 5; entry = 4; input = Some 0; outs = mask (1 ∷ []); flow = only_packet }
+fast_record = fast 1 5 only_packet 4 0 (1 ∷ [])
 
-abbrev pub settle : Entry
-settle = Settle (lane 1) (fast_record ∷ [])
+abbrev pub settled : Entry
+settled = settle (fast_record ∷ [])
 
 -- the same with the packet forwarded without the lock
 abbrev pub fast_history : List Entry
-fast_history = start ++ settle ∷ EndPhase ∷ []
+fast_history = start ++ settled ∷ EndPhase ∷ []
 
 -- The packet stands behind the five entries that its look had seen, and before the one that counts it.
 abbrev pub steps : List Step
 steps =
     Kept (good 1 Init) ∷ Kept (good 1 (add_vif 0 8 1)) ∷ Kept (good 1 (add_vif 1 8 2))
     ∷ Kept (good 1 (add_mfc source group 0 ((1, 1) ∷ []))) ∷ Kept EndPhase ∷ Fast (lane 1) fast_record
-    ∷ Kept settle ∷ Kept EndPhase ∷ []
+    ∷ Kept settled ∷ Kept EndPhase ∷ []
 
 abbrev pub tail : Ending
 tail = record {

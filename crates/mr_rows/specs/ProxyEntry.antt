@@ -1,11 +1,11 @@
 -- A proxy entry sends on its parent alone, and not back on it.
-use Rattle.std.specs.Prelude.{List, [], ◌∷◌, ◌++◌}
+use Rattle.std.specs.Prelude.{List, [], ◌∷◌, ◌++◌, take}
 use Rattle.mr_base.specs.declared.numbers.Addr.{Addr}
 use Rattle.mr_model.specs.declared.ending.Ending.{Ending}
 use Rattle.mr_model.specs.declared.entry.Entry.{Entry}
 use Rattle.mr_model.specs.declared.entry.Entry.TheVariants.{EndPhase}
 use Rattle.mr_model.specs.declared.limits.Limits.{Limits}
-use Rattle.mr_rows.specs.Samples.{addr, any, source, group, usual, add_mfc, add_proxy, good, opening, packet, slow, forward, route, vif, route_totals, vif_totals}
+use Rattle.mr_rows.specs.Samples.{addr, any, source, group, usual, add_mfc, add_proxy, good, opening, packet, slow, forward, route, vif, route_totals, vif_totals, fast, settle}
 
 abbrev pub limits : Limits
 limits = usual 2 2 (0 ∷ 1 ∷ 2 ∷ [])
@@ -23,6 +23,10 @@ history =
     ∷ slow 1 7 (packet 2 (addr 10 0 1 9) far_group 9) (forward 5 0 (0 ∷ []))
     ∷ slow 2 8 (packet 1 source far_group 9) (forward 5 0 [])
     ∷ EndPhase ∷ []
+
+-- the same with plainly forwarded packets that were decided without the lock
+abbrev pub fast_history : List Entry
+fast_history = take 7 history ++ settle (fast 1 7 (packet 2 (addr 10 0 1 9) far_group 9) 5 0 (0 ∷ []) ∷ fast 2 7 (packet 1 source far_group 9) 5 0 [] ∷ []) ∷ EndPhase ∷ []
 
 abbrev pub tail : Ending
 tail = record {

@@ -11,7 +11,8 @@ use Rattle.mr_base.specs.declared.vif_record.VifRecord.{VifRecord}
 use Rattle.mr_model.specs.declared.ending.Fate.{Fate}
 use Rattle.mr_model.specs.declared.ending.FateLine.{FateLine}
 use Rattle.mr_model.specs.declared.entry.Entry.{Entry}
-use Rattle.mr_model.specs.declared.entry.Entry.TheVariants.{Call, Slow, Tick, Recv}
+use Rattle.mr_model.specs.declared.entry.Entry.TheVariants.{Call, Slow, Settle, Tick, Recv}
+use Rattle.mr_model.specs.declared.entry.FastRecord.{FastRecord}
 use Rattle.mr_model.specs.declared.entry.ReleasedId.{ReleasedId}
 use Rattle.mr_model.specs.declared.flow.Flow.{Flow}
 use Rattle.mr_model.specs.declared.limits.Limits.{Limits}
@@ -137,6 +138,21 @@ slow index look flow outcome = Slow (lane 1) index look flow outcome
 abbrev pub forward : ℕ → ℕ → List ℕ → Outcome
 forward entry input outs = Forward entry (Some input) (mask outs)
 
+-- the same of a packet that is forwarded without the lock, by what its look had seen
+abbrev pub fast : ℕ → ℕ → Flow → ℕ → ℕ → List ℕ → FastRecord
+fast index look flow entry input outs = record {
+  index = index;
+  look = look;
+  entry = entry;
+  input = Some input;
+  outs = mask outs;
+  flow = flow;
+}
+
+-- such packets of lane 1 are counted
+abbrev pub settle : List FastRecord → Entry
+settle records = Settle (lane 1) records
+
 -- a packet of lane 1 that a call released
 abbrev pub freed : ℕ → Outcome → ReleasedId
 freed index outcome = record { lane = lane 1; index = index; outcome = outcome }
@@ -175,3 +191,10 @@ vif_totals packets_in packets_out bytes_in bytes_out = record {
 -- the fate of a packet of lane 1
 abbrev pub fate_line : ℕ → Fate → FateLine
 fate_line index fate = record { lane = lane 1; index = index; fate = fate }
+
+-- the same as `route` and `vif`, static
+abbrev pub fixed_route : ℕ → Addr → Addr → ℕ → List (ℕ × ℕ) → Route
+fixed_route number src dst parent pairs = record (route number src dst parent pairs) { fixed = true }
+
+abbrev pub fixed_vif : ℕ → ℕ → ℕ → VifRecord
+fixed_vif i dev number = record (vif i dev number) { fixed = true }

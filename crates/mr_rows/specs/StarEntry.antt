@@ -5,7 +5,7 @@ use Rattle.mr_model.specs.declared.ending.Ending.{Ending}
 use Rattle.mr_model.specs.declared.entry.Entry.{Entry}
 use Rattle.mr_model.specs.declared.entry.Entry.TheVariants.{EndPhase}
 use Rattle.mr_model.specs.declared.limits.Limits.{Limits}
-use Rattle.mr_rows.specs.Samples.{addr, any, group, usual, add_mfc, add_proxy, good, opening, packet, slow, forward, route, vif, route_totals, vif_totals}
+use Rattle.mr_rows.specs.Samples.{addr, any, group, usual, add_mfc, add_proxy, good, opening, packet, slow, forward, route, vif, route_totals, vif_totals, fast, settle}
 
 abbrev pub limits : Limits
 limits = usual 2 1 (0 ∷ 1 ∷ 2 ∷ [])
@@ -27,6 +27,10 @@ proxy_route = route 5 any any 0 ((0, 1) ∷ (1, 1) ∷ (2, 1) ∷ [])
 
 abbrev pub star_route : Route
 star_route = route 6 any group 0 ((0, 1) ∷ (1, 1) ∷ (2, 1) ∷ [])
+
+-- the same with plainly forwarded packets that were decided without the lock
+abbrev pub fast_history : List Entry
+fast_history = start ++ settle (fast 1 7 (packet 2 (addr 10 0 1 9) group 9) 6 0 (0 ∷ 2 ∷ []) ∷ []) ∷ EndPhase ∷ []
 
 abbrev pub tail : Ending
 tail = record {

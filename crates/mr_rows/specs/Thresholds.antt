@@ -4,7 +4,7 @@ use Rattle.mr_model.specs.declared.ending.Ending.{Ending}
 use Rattle.mr_model.specs.declared.entry.Entry.{Entry}
 use Rattle.mr_model.specs.declared.entry.Entry.TheVariants.{EndPhase}
 use Rattle.mr_model.specs.declared.limits.Limits.{Limits}
-use Rattle.mr_rows.specs.Samples.{source, group, second_group, usual, add_mfc, good, opening, packet, slow, forward, route, vif, route_totals, vif_totals}
+use Rattle.mr_rows.specs.Samples.{source, group, second_group, usual, add_mfc, good, opening, packet, slow, forward, route, vif, route_totals, vif_totals, fast, settle}
 
 abbrev pub limits : Limits
 limits = usual 2 2 (0 ∷ 1 ∷ 2 ∷ 3 ∷ [])
@@ -22,6 +22,10 @@ history =
     ++ slow 1 8 (packet 1 source group 5) (forward 6 0 (1 ∷ []))
     ∷ slow 2 9 (packet 1 source second_group 1) (forward 7 0 [])
     ∷ EndPhase ∷ []
+
+-- the same with plainly forwarded packets that were decided without the lock
+abbrev pub fast_history : List Entry
+fast_history = start ++ settle (fast 1 8 (packet 1 source group 5) 6 0 (1 ∷ []) ∷ fast 2 8 (packet 1 source second_group 1) 7 0 [] ∷ []) ∷ EndPhase ∷ []
 
 abbrev pub tail : Ending
 tail = record {

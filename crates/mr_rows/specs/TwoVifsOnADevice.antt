@@ -1,5 +1,5 @@
 -- Two vifs on one device: both send, and a packet that comes in counts as on the higher one.
-use Rattle.std.specs.Prelude.{Some, List, [], ◌∷◌, ◌++◌}
+use Rattle.std.specs.Prelude.{Some, List, [], ◌∷◌, ◌++◌, take}
 use Rattle.mr_model.specs.declared.ending.Ending.{Ending}
 use Rattle.mr_model.specs.declared.ending.Fate.TheVariants.{Waiting}
 use Rattle.mr_model.specs.declared.entry.Entry.{Entry}
@@ -8,7 +8,7 @@ use Rattle.mr_model.specs.declared.limits.Limits.{Limits}
 use Rattle.mr_model.specs.declared.message.Kind.TheVariants.{NoCache}
 use Rattle.mr_model.specs.declared.message.MessageId.{MessageId}
 use Rattle.mr_model.specs.declared.outcome.Outcome.TheVariants.{Parked}
-use Rattle.mr_rows.specs.Samples.{addr, source, group, second_group, usual, add_vif, add_mfc, good, opening, recv, report, packet, slow, forward, route, vif, route_totals, vif_totals, fate_line}
+use Rattle.mr_rows.specs.Samples.{addr, source, group, second_group, usual, add_vif, add_mfc, good, opening, recv, report, packet, slow, forward, route, vif, route_totals, vif_totals, fate_line, fast, settle}
 
 abbrev pub limits : Limits
 limits = usual 3 2 (0 ∷ 1 ∷ [])
@@ -29,6 +29,16 @@ miss = report NoCache 2 2
 
 abbrev pub history : List Entry
 history = before_receive ++ recv (Some miss) ∷ EndPhase ∷ []
+
+-- the same with plainly forwarded packets that were decided without the lock
+abbrev pub fast_history : List Entry
+fast_history =
+    take 6 history
+    ++ settle (fast 1 6 (packet 2 (addr 10 0 1 9) group 9) 5 1 (0 ∷ 2 ∷ []) ∷ [])
+    ∷ slow 2 6 (packet 1 source second_group 9) Parked
+    ∷ EndPhase
+    ∷ recv (Some miss)
+    ∷ EndPhase ∷ []
 
 abbrev pub tail : Ending
 tail = record {

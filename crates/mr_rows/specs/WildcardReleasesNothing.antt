@@ -8,7 +8,7 @@ use Rattle.mr_model.specs.declared.flow.Flow.{Flow}
 use Rattle.mr_model.specs.declared.limits.Limits.{Limits}
 use Rattle.mr_model.specs.declared.outcome.Outcome.TheVariants.{Parked}
 use Rattle.mr_model.specs.declared.request.Request.{Request}
-use Rattle.mr_rows.specs.Samples.{any, source, group, usual, add_mfc, good, opening, packet, slow, forward, route, vif, route_totals, vif_totals, fate_line}
+use Rattle.mr_rows.specs.Samples.{any, source, group, usual, add_mfc, good, opening, packet, slow, forward, route, vif, route_totals, vif_totals, fate_line, fast, settle}
 
 abbrev pub limits : Limits
 limits = usual 4 2 (0 ∷ 1 ∷ [])
@@ -27,6 +27,10 @@ made = parked ++ good 1 entry_made ∷ EndPhase ∷ []
 
 abbrev pub history : List Entry
 history = made ++ slow 2 8 flow (forward 7 0 (1 ∷ [])) ∷ EndPhase ∷ []
+
+-- the same with plainly forwarded packets that were decided without the lock
+abbrev pub fast_history : List Entry
+fast_history = made ++ settle (fast 2 8 flow 7 0 (1 ∷ []) ∷ []) ∷ EndPhase ∷ []
 
 abbrev pub tail : Ending
 tail = record {

@@ -10,6 +10,8 @@ ghost use Rattle.mr_model.specs.Unfolded.{unfolded};
 ghost use Rattle.mr_model.specs.Unread.{unread};
 ghost use Rattle.mr_model.specs.Verdict.{judge, verdict as verdict_after};
 ghost use Rattle.mr_rows.specs.Samples.{addr, group, mask};
+ghost use Rattle.mr_rows.specs.AbsentParent as absent;
+ghost use Rattle.mr_rows.specs.NewestStar as newest;
 ghost use Rattle.mr_rows.specs.OrdinaryPath as ordinary;
 ghost use Rattle.mr_rows.specs.Thresholds as levels;
 ghost use Rattle.mr_rows.specs.VifAddedLater as later;
@@ -34,12 +36,18 @@ pub fn ordinary_path()
 pub fn thresholds()
     ensures legal { IsLegal levels.limits levels.history }
     ensures ending { ending levels.limits levels.history ≡ levels.tail }
+    ensures fast_legal { IsLegal levels.limits levels.fast_history }
+    ensures fast_lively { IsLively levels.limits levels.fast_history }
+    ensures fast_ending { ending levels.limits levels.fast_history ≡ levels.tail }
 {}
 
 /// The thresholds 0 and 255 mean none, and so does any threshold of a vif that is added later than the entry.
 pub fn vif_added_later()
     ensures legal { IsLegal later.limits later.history }
     ensures ending { ending later.limits later.history ≡ later.tail }
+    ensures fast_legal { IsLegal later.limits later.fast_history }
+    ensures fast_lively { IsLively later.limits later.fast_history }
+    ensures fast_ending { ending later.limits later.fast_history ≡ later.tail }
 {}
 
 /// An entry for any origin takes a packet that comes in on a vif of the parent's proxy entry. It counts in on
@@ -48,6 +56,9 @@ pub fn vif_added_later()
 pub fn star_entry()
     ensures legal { IsLegal star.limits star.history }
     ensures ending { ending star.limits star.history ≡ star.tail }
+    ensures fast_legal { IsLegal star.limits star.fast_history }
+    ensures fast_lively { IsLively star.limits star.fast_history }
+    ensures fast_ending { ending star.limits star.fast_history ≡ star.tail }
     ensures found { found star.limits star.start 2 (addr 10 0 1 9) group ≡ Some star.star_route }
     ensures proxy { proxy star.limits star.start 1 ≡ Some star.proxy_route }
     ensures judge { judge star.limits star.start star.proxy_route 2 9 ≡ verdict.Forward 5 (Some 0) (mask (0 ∷ [])) }
@@ -59,6 +70,9 @@ pub fn star_entry()
 pub fn proxy_entry()
     ensures legal { IsLegal proxied.limits proxied.history }
     ensures ending { ending proxied.limits proxied.history ≡ proxied.tail }
+    ensures fast_legal { IsLegal proxied.limits proxied.fast_history }
+    ensures fast_lively { IsLively proxied.limits proxied.fast_history }
+    ensures fast_ending { ending proxied.limits proxied.fast_history ≡ proxied.tail }
 {}
 
 /// Where two vifs are on one device, a packet goes out on both, and one that comes in on the device and
@@ -66,6 +80,24 @@ pub fn proxy_entry()
 pub fn two_vifs_on_a_device()
     ensures legal { IsLegal two.limits two.history }
     ensures ending { ending two.limits two.history ≡ two.tail }
+    ensures fast_legal { IsLegal two.limits two.fast_history }
+    ensures fast_lively { IsLively two.limits two.fast_history }
+    ensures fast_ending { ending two.limits two.fast_history ≡ two.tail }
     ensures unread_before { unread two.limits two.before_receive ≡ two.miss ∷ [] }
     ensures unread_after { unread two.limits two.history ≡ [] }
+{}
+
+/// Where its parent vif is deleted, an entry for any origin still passes what comes in on a vif of the parent's
+/// proxy entry, and counts it in on no vif. An exact entry then passes nothing, and a device without a vif
+/// meets no wildcard.
+pub fn absent_parent()
+    ensures legal { IsLegal absent.limits absent.history }
+    ensures ending { ending absent.limits absent.history ≡ absent.tail }
+{}
+
+/// Of two entries of one group for any origin the newer one is met where it serves the vif, else the older one.
+/// Without a proxy entry they pass what comes in on their parent alone, and nothing goes back.
+pub fn newest_star()
+    ensures legal { IsLegal newest.limits newest.history }
+    ensures ending { ending newest.limits newest.history ≡ newest.tail }
 {}

@@ -1,0 +1,35 @@
+//! Packets that are forwarded without the lock, and several lanes.
+
+ghost use Rattle.std.specs.Prelude.{◌≡◌};
+ghost use Rattle.mr_model.specs.Ending.{ending};
+ghost use Rattle.mr_model.specs.Legal.{IsLegal};
+ghost use Rattle.mr_model.specs.Lively.{IsLively};
+ghost use Rattle.mr_rows.specs.FullSettle as full_settle;
+ghost use Rattle.mr_rows.specs.NothingHappens as nothing;
+ghost use Rattle.mr_rows.specs.TwoLanes as lanes;
+
+/// One phase without a call or a packet is a history, and leaves nothing.
+pub fn nothing_happens()
+    ensures legal { IsLegal nothing.limits nothing.history }
+    ensures lively { IsLively nothing.limits nothing.history }
+    ensures ending { ending nothing.limits nothing.history ≡ nothing.tail }
+{}
+
+/// A packet of one lane is forwarded without the lock while one of another lane misses. Both orders are legal and
+/// lively, and both end alike. The packet that waited is released with its own lane's number.
+pub fn two_lanes()
+    ensures legal { IsLegal lanes.limits lanes.history }
+    ensures lively { IsLively lanes.limits lanes.history }
+    ensures ending { ending lanes.limits lanes.history ≡ lanes.tail }
+    ensures other_legal { IsLegal lanes.limits lanes.other_history }
+    ensures other_lively { IsLively lanes.limits lanes.other_history }
+    ensures other_ending { ending lanes.limits lanes.other_history ≡ lanes.tail }
+{}
+
+/// A lane's packets are counted by 64 at most at a time, and a full count may be followed by another one.
+pub fn full_settle()
+    ensures legal { IsLegal full_settle.limits full_settle.history }
+    ensures lively { IsLively full_settle.limits full_settle.history }
+    ensures ending { ending full_settle.limits full_settle.history ≡ full_settle.tail }
+    ensures overfull { IsLegal full_settle.limits full_settle.overfull → ⊥ }
+{}
