@@ -6,7 +6,7 @@ use Rattle.mr_model.specs.declared.entry.Entry.TheVariants.{EndPhase}
 use Rattle.mr_model.specs.declared.entry.FastRecord.{FastRecord}
 use Rattle.mr_model.specs.declared.limits.Limits.{Limits}
 use Rattle.mr_model.specs.Ending.{indexes}
-use Rattle.mr_rows.specs.Samples.{source, group, usual, add_mfc, good, opening, packet, route, vif, route_totals, vif_totals, fast, settle}
+use Rattle.mr_rows.specs.Samples.{source, group, usual, add_mfc, good, opening, packet, slow, forward, route, vif, route_totals, vif_totals, fast, settle}
 
 abbrev pub limits : Limits
 limits = usual 2 65 (0 ∷ 1 ∷ [])
@@ -23,6 +23,10 @@ first_records = map (λ i. passed (i + 1) 5) indexes ++ map (λ i. passed (i + 3
 
 abbrev pub history : List Entry
 history = start ++ settle first_records ∷ settle (passed 65 6 ∷ []) ∷ EndPhase ∷ []
+
+-- the last one decided under the lock, with a look that has seen the count of the others
+abbrev pub slow_after : List Entry
+slow_after = start ++ settle first_records ∷ slow 65 6 (packet 1 source group 9) (forward 4 0 (1 ∷ [])) ∷ []
 
 -- all of them together, which are too many
 abbrev pub overfull : List Entry

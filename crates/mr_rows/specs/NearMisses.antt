@@ -4,26 +4,27 @@ use Rattle.mr_base.specs.declared.errno.Errno.TheVariants.{Invalid}
 use Rattle.mr_model.specs.declared.ending.Ending.{Ending}
 use Rattle.mr_model.specs.declared.ending.Fate.TheVariants.{Expired}
 use Rattle.mr_model.specs.declared.entry.Entry.{Entry}
-use Rattle.mr_model.specs.declared.entry.Entry.TheVariants.{Call, EndPhase, Recv, Settle, Slow}
+use Rattle.mr_model.specs.declared.entry.Entry.TheVariants.{Call, EndPhase, Recv, Slow}
 use Rattle.mr_model.specs.declared.limits.Limits.{Limits}
 use Rattle.mr_model.specs.declared.message.Kind.TheVariants.{NoCache}
 use Rattle.mr_model.specs.declared.outcome.Cause.TheVariants.{Upcall}
 use Rattle.mr_model.specs.declared.outcome.Outcome.TheVariants.{Dropped, Parked, Register, Wrong}
 use Rattle.mr_model.specs.declared.outcome.Report.TheVariants.{Quiet, Told}
 use Rattle.mr_model.specs.declared.reply.Reply.TheVariants.{Good, Sg, Value}
-use Rattle.mr_model.specs.declared.request.Request.TheVariants.{DelVif, GetVersion, Init, Pim}
-use Rattle.mr_rows.specs.Samples.{addr, source, group, second_group, usual, daemon, lane, mask, add_vif, call, good, refused, tick, recv, report, packet, slow, forward, freed, route, route_totals, fate_line}
+use Rattle.mr_model.specs.declared.request.Request.TheVariants.{Assert, DelVif, GetVersion, Init, Pim}
+use Rattle.mr_rows.specs.Samples.{addr, source, group, second_group, usual, daemon, lane, mask, add_vif, call, good, refused, tick, recv, report, packet, slow, forward, freed, route, route_totals, fate_line, settle}
 use Rattle.mr_rows.specs.ControlErrors as errors
 use Rattle.mr_rows.specs.CountersStartAgain as again
-use Rattle.mr_rows.specs.Expiry as old
+use Rattle.mr_rows.specs.Expiry as expiring
+use Rattle.mr_rows.specs.FullSettle as full_settle
 use Rattle.mr_rows.specs.NobodyOwns as nobody
 use Rattle.mr_rows.specs.OrdinaryPath as ordinary
 use Rattle.mr_rows.specs.RegisterCopiesLost as lost
-use Rattle.mr_rows.specs.RegisterReport as copy
+use Rattle.mr_rows.specs.RegisterReport as copied
 use Rattle.mr_rows.specs.StarEntry as star
 use Rattle.mr_rows.specs.StaticByCaller as leaving
 use Rattle.mr_rows.specs.Thresholds as levels
-use Rattle.mr_rows.specs.TwoVifsOnADevice as two
+use Rattle.mr_rows.specs.TwoVifsOnADevice as shared
 use Rattle.mr_rows.specs.VifAddedLater as later
 use Rattle.mr_rows.specs.WaitingEntriesFull as full
 use Rattle.mr_rows.specs.WaitingPacketsReleased as release
@@ -76,11 +77,15 @@ wildcard_first = take 7 star.history ++ slow 1 7 (packet 2 (addr 10 0 1 9) group
 
 -- a packet on a wrong interface is forwarded without the lock
 abbrev pub wrong_settled : List Entry
-wrong_settled = ordinary.start ++ Settle (lane 1) (record ordinary.fast_record { flow = packet 2 source group 2 } ∷ []) ∷ []
+wrong_settled = ordinary.start ++ settle (record ordinary.fast_record { flow = packet 2 source group 2 } ∷ []) ∷ []
+
+-- a packet that is forwarded without the lock goes out on another vif
+abbrev pub other_vif_settled : List Entry
+other_vif_settled = ordinary.start ++ settle (record ordinary.fast_record { outs = mask (0 ∷ []) } ∷ []) ∷ []
 
 -- packets are counted where there are none
 abbrev pub empty_settle : List Entry
-empty_settle = ordinary.start ++ Settle (lane 1) [] ∷ []
+empty_settle = ordinary.start ++ settle [] ∷ []
 
 -- a look that is older than the last end of a phase
 abbrev pub old_look : List Entry
@@ -88,7 +93,7 @@ old_look = ordinary.start ++ slow 1 4 ordinary.only_packet (forward 4 0 (1 ∷ [
 
 -- the same of a packet that is forwarded without the lock
 abbrev pub old_settled_look : List Entry
-old_settled_look = ordinary.start ++ Settle (lane 1) (record ordinary.fast_record { look = 4 } ∷ []) ∷ []
+old_settled_look = ordinary.start ++ settle (record ordinary.fast_record { look = 4 } ∷ []) ∷ []
 
 -- a look at an entry that is yet to come
 abbrev pub look_ahead : List Entry
@@ -101,6 +106,22 @@ look_before_own = take 9 levels.history ++ slow 2 8 (packet 1 source second_grou
 -- the index of the lane's packet before
 abbrev pub index_again : List Entry
 index_again = wildcard.made ++ slow 1 8 wildcard.flow (forward 7 0 (1 ∷ [])) ∷ []
+
+-- a short count of the lane that stands not directly before its slow packet, which has an older look
+abbrev pub short_count_apart : List Entry
+short_count_apart = take 6 shared.history ++ settle (shared.passed 6 ∷ []) ∷ good 1 (Assert 1) ∷ slow 2 6 shared.missing Parked ∷ []
+
+-- a slow packet with an older look than one of its lane that is counted directly before it
+abbrev pub counted_look : List Entry
+counted_look = take 6 shared.history ++ good 1 (Assert 1) ∷ settle (shared.passed 7 ∷ []) ∷ slow 2 6 shared.missing Parked ∷ []
+
+-- a full count directly before a slow packet with an older look
+abbrev pub full_count : List Entry
+full_count = full_settle.start ++ settle full_settle.first_records ∷ slow 65 5 (packet 1 source group 9) (forward 4 0 (1 ∷ [])) ∷ []
+
+-- a packet that is counted twice
+abbrev pub record_again : List Entry
+record_again = levels.start ++ settle (levels.first_passed 1 ∷ levels.first_passed 1 ∷ []) ∷ []
 
 -- a packet of a second lane, where there is one
 abbrev pub lane_two : List Entry
@@ -144,7 +165,7 @@ quiet_at_first = take 6 wrong.history ++ slow 1 6 wrong.strayed (Wrong 5 (Some 1
 
 -- the report of a copy is lost though there is room
 abbrev pub lost_with_room : List Entry
-lost_with_room = take 6 copy.history ++ slow 1 6 (packet 1 source group 2) (Register 5 (Some 0) (mask (1 ∷ 2 ∷ [])) false) ∷ []
+lost_with_room = take 6 copied.history ++ slow 1 6 (packet 1 source group 2) (Register 5 (Some 0) (mask (1 ∷ 2 ∷ [])) false) ∷ []
 
 -- a 65th report is told
 abbrev pub told_without_room : List Entry
@@ -152,7 +173,7 @@ told_without_room = lost.all_told ++ lost.copy 65 true ∷ []
 
 -- a miss is reported with the lower vif of its device
 abbrev pub lower_vif : List Entry
-lower_vif = two.before_receive ++ recv (Some (report NoCache 0 2)) ∷ []
+lower_vif = shared.before_receive ++ recv (Some (report NoCache 0 2)) ∷ []
 
 -- a receive gives a report that there is not
 abbrev pub other_message : List Entry
@@ -168,11 +189,11 @@ read_by_another = leaving.before_leaving ++ Recv (daemon 2) (Some (report NoCach
 
 -- a packet that expires at the tick before
 abbrev pub early_tail : Ending
-early_tail = record old.tail { fates = fate_line 1 (Expired 6) ∷ [] }
+early_tail = record expiring.tail { fates = fate_line 1 (Expired 6) ∷ [] }
 
 -- a history whose ticks are a millisecond short of ten seconds
 abbrev pub short_ticks : List Entry
-short_ticks = old.parked ++ tick 9998 ∷ tick 1 ∷ EndPhase ∷ []
+short_ticks = expiring.parked ++ tick 9998 ∷ tick 1 ∷ EndPhase ∷ []
 
 -- an ending in which the entry that stays is not static
 abbrev pub plain_tail : Ending
@@ -183,7 +204,7 @@ abbrev pub two_packets : Limits
 two_packets = usual 2 2 (0 ∷ 1 ∷ [])
 
 abbrev pub second_settle : Entry
-second_settle = Settle (lane 1) (record ordinary.fast_record { index = 2; look = 6 } ∷ [])
+second_settle = settle (record ordinary.fast_record { index = 2; look = 6 } ∷ [])
 
 abbrev pub split_settles : List Entry
 split_settles = ordinary.start ++ ordinary.settled ∷ second_settle ∷ EndPhase ∷ []

@@ -1,8 +1,9 @@
 -- Two packets against thresholds: one sends on the vif with a lower one, the other on none.
-use Rattle.std.specs.Prelude.{List, [], ◌∷◌, ◌++◌}
+use Rattle.std.specs.Prelude.{ℕ, List, [], ◌∷◌, ◌++◌}
 use Rattle.mr_model.specs.declared.ending.Ending.{Ending}
 use Rattle.mr_model.specs.declared.entry.Entry.{Entry}
 use Rattle.mr_model.specs.declared.entry.Entry.TheVariants.{EndPhase}
+use Rattle.mr_model.specs.declared.entry.FastRecord.{FastRecord}
 use Rattle.mr_model.specs.declared.limits.Limits.{Limits}
 use Rattle.mr_rows.specs.Samples.{source, group, second_group, usual, add_mfc, good, opening, packet, slow, forward, route, vif, route_totals, vif_totals, fast, settle}
 
@@ -23,9 +24,13 @@ history =
     ∷ slow 2 9 (packet 1 source second_group 1) (forward 7 0 [])
     ∷ EndPhase ∷ []
 
+-- the first packet, decided without the lock
+abbrev pub first_passed : ℕ → FastRecord
+first_passed index = fast index 8 (packet 1 source group 5) 6 0 (1 ∷ [])
+
 -- the same with plainly forwarded packets that were decided without the lock
 abbrev pub fast_history : List Entry
-fast_history = start ++ settle (fast 1 8 (packet 1 source group 5) 6 0 (1 ∷ []) ∷ fast 2 8 (packet 1 source second_group 1) 7 0 [] ∷ []) ∷ EndPhase ∷ []
+fast_history = start ++ settle (first_passed 1 ∷ fast 2 8 (packet 1 source second_group 1) 7 0 [] ∷ []) ∷ EndPhase ∷ []
 
 abbrev pub tail : Ending
 tail = record {

@@ -1,9 +1,11 @@
 -- Two vifs on one device: both send, and a packet that comes in counts as on the higher one.
-use Rattle.std.specs.Prelude.{Some, List, [], ◌∷◌, ◌++◌, take}
+use Rattle.std.specs.Prelude.{ℕ, Some, List, [], ◌∷◌, ◌++◌, take}
 use Rattle.mr_model.specs.declared.ending.Ending.{Ending}
 use Rattle.mr_model.specs.declared.ending.Fate.TheVariants.{Waiting}
 use Rattle.mr_model.specs.declared.entry.Entry.{Entry}
 use Rattle.mr_model.specs.declared.entry.Entry.TheVariants.{EndPhase}
+use Rattle.mr_model.specs.declared.entry.FastRecord.{FastRecord}
+use Rattle.mr_model.specs.declared.flow.Flow.{Flow}
 use Rattle.mr_model.specs.declared.limits.Limits.{Limits}
 use Rattle.mr_model.specs.declared.message.Kind.TheVariants.{NoCache}
 use Rattle.mr_model.specs.declared.message.MessageId.{MessageId}
@@ -13,6 +15,14 @@ use Rattle.mr_rows.specs.Samples.{addr, source, group, second_group, usual, add_
 abbrev pub limits : Limits
 limits = usual 3 2 (0 ∷ 1 ∷ [])
 
+-- of device 1, with both vifs
+abbrev pub missing : Flow
+missing = packet 1 source second_group 9
+
+-- the first packet, decided without the lock
+abbrev pub passed : ℕ → FastRecord
+passed look = fast 1 look (packet 2 (addr 10 0 1 9) group 9) 5 1 (0 ∷ 2 ∷ [])
+
 abbrev pub before_receive : List Entry
 before_receive =
     opening (0 ∷ 1 ∷ [])
@@ -20,7 +30,7 @@ before_receive =
     ∷ good 1 (add_mfc (addr 10 0 1 9) group 1 ((0, 1) ∷ (2, 1) ∷ []))
     ∷ EndPhase
     ∷ slow 1 6 (packet 2 (addr 10 0 1 9) group 9) (forward 5 1 (0 ∷ 2 ∷ []))
-    ∷ slow 2 7 (packet 1 source second_group 9) Parked
+    ∷ slow 2 7 missing Parked
     ∷ EndPhase ∷ []
 
 -- the report of the packet that waits
@@ -34,8 +44,8 @@ history = before_receive ++ recv (Some miss) ∷ EndPhase ∷ []
 abbrev pub fast_history : List Entry
 fast_history =
     take 6 history
-    ++ settle (fast 1 6 (packet 2 (addr 10 0 1 9) group 9) 5 1 (0 ∷ 2 ∷ []) ∷ [])
-    ∷ slow 2 6 (packet 1 source second_group 9) Parked
+    ++ settle (passed 6 ∷ [])
+    ∷ slow 2 6 missing Parked
     ∷ EndPhase
     ∷ recv (Some miss)
     ∷ EndPhase ∷ []

@@ -17,7 +17,7 @@ ghost use Rattle.mr_rows.specs.Thresholds as levels;
 ghost use Rattle.mr_rows.specs.VifAddedLater as later;
 ghost use Rattle.mr_rows.specs.StarEntry as star;
 ghost use Rattle.mr_rows.specs.ProxyEntry as proxied;
-ghost use Rattle.mr_rows.specs.TwoVifsOnADevice as two;
+ghost use Rattle.mr_rows.specs.TwoVifsOnADevice as shared;
 
 /// A packet that meets the entry of its source and group goes out on the vif whose threshold its TTL
 /// exceeds. So it does with and without the lock, and both histories end alike; the one without the lock
@@ -78,13 +78,13 @@ pub fn proxy_entry()
 /// Where two vifs are on one device, a packet goes out on both, and one that comes in on the device and
 /// misses is reported with the higher one. The report is unread until the owner takes it.
 pub fn two_vifs_on_a_device()
-    ensures legal { IsLegal two.limits two.history }
-    ensures ending { ending two.limits two.history ≡ two.tail }
-    ensures fast_legal { IsLegal two.limits two.fast_history }
-    ensures fast_lively { IsLively two.limits two.fast_history }
-    ensures fast_ending { ending two.limits two.fast_history ≡ two.tail }
-    ensures unread_before { unread two.limits two.before_receive ≡ two.miss ∷ [] }
-    ensures unread_after { unread two.limits two.history ≡ [] }
+    ensures legal { IsLegal shared.limits shared.history }
+    ensures ending { ending shared.limits shared.history ≡ shared.tail }
+    ensures fast_legal { IsLegal shared.limits shared.fast_history }
+    ensures fast_lively { IsLively shared.limits shared.fast_history }
+    ensures fast_ending { ending shared.limits shared.fast_history ≡ shared.tail }
+    ensures unread_before { unread shared.limits shared.before_receive ≡ shared.miss ∷ [] }
+    ensures unread_after { unread shared.limits shared.history ≡ [] }
 {}
 
 /// Where its parent vif is deleted, an entry for any origin still passes what comes in on a vif of the parent's

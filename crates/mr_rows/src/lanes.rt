@@ -31,5 +31,6 @@ pub fn full_settle()
     ensures legal { IsLegal full_settle.limits full_settle.history }
     ensures lively { IsLively full_settle.limits full_settle.history }
     ensures ending { ending full_settle.limits full_settle.history ≡ full_settle.tail }
+    ensures slow_after { IsLegal full_settle.limits full_settle.slow_after }
     ensures overfull { IsLegal full_settle.limits full_settle.overfull → ⊥ }
 {}

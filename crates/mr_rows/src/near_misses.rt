@@ -6,15 +6,16 @@ ghost use Rattle.mr_model.specs.Legal.{IsLegal};
 ghost use Rattle.mr_model.specs.Lively.{IsLively};
 ghost use Rattle.mr_rows.specs.ControlErrors as errors;
 ghost use Rattle.mr_rows.specs.CountersStartAgain as again;
-ghost use Rattle.mr_rows.specs.Expiry as old;
+ghost use Rattle.mr_rows.specs.Expiry as expiring;
+ghost use Rattle.mr_rows.specs.FullSettle as full_settle;
 ghost use Rattle.mr_rows.specs.NobodyOwns as nobody;
 ghost use Rattle.mr_rows.specs.OrdinaryPath as ordinary;
 ghost use Rattle.mr_rows.specs.RegisterCopiesLost as lost;
-ghost use Rattle.mr_rows.specs.RegisterReport as copy;
+ghost use Rattle.mr_rows.specs.RegisterReport as copied;
 ghost use Rattle.mr_rows.specs.StarEntry as star;
 ghost use Rattle.mr_rows.specs.StaticByCaller as leaving;
 ghost use Rattle.mr_rows.specs.Thresholds as levels;
-ghost use Rattle.mr_rows.specs.TwoVifsOnADevice as two;
+ghost use Rattle.mr_rows.specs.TwoVifsOnADevice as shared;
 ghost use Rattle.mr_rows.specs.VifAddedLater as later;
 ghost use Rattle.mr_rows.specs.WaitingEntriesFull as full;
 ghost use Rattle.mr_rows.specs.WaitingPacketsReleased as release;
@@ -42,6 +43,7 @@ pub fn forwarding_near_misses()
     ensures sent_back { IsLegal star.limits misses.sent_back → ⊥ }
     ensures wildcard_first { IsLegal star.limits misses.wildcard_first → ⊥ }
     ensures wrong_settled { IsLegal ordinary.limits misses.wrong_settled → ⊥ }
+    ensures other_vif_settled { IsLegal ordinary.limits misses.other_vif_settled → ⊥ }
     ensures empty_settle { IsLegal ordinary.limits misses.empty_settle → ⊥ }
 {}
 
@@ -53,6 +55,10 @@ pub fn place_near_misses()
     ensures look_ahead { IsLegal ordinary.limits misses.look_ahead → ⊥ }
     ensures look_before_own { IsLegal levels.limits misses.look_before_own → ⊥ }
     ensures index_again { IsLegal wildcard.limits misses.index_again → ⊥ }
+    ensures short_count_apart { IsLegal shared.limits misses.short_count_apart → ⊥ }
+    ensures counted_look { IsLegal shared.limits misses.counted_look → ⊥ }
+    ensures full_count { IsLegal full_settle.limits misses.full_count → ⊥ }
+    ensures record_again { IsLegal levels.limits misses.record_again → ⊥ }
     ensures lane_two { IsLegal ordinary.limits misses.lane_two → ⊥ }
     ensures no_packets { IsLegal misses.no_packets ordinary.history → ⊥ }
     ensures one_phase { IsLegal misses.one_phase ordinary.history → ⊥ }
@@ -76,9 +82,9 @@ pub fn waiting_near_misses()
 pub fn report_near_misses()
     ensures told_though_quiet { IsLegal wrong.limits misses.told_though_quiet → ⊥ }
     ensures quiet_at_first { IsLegal wrong.limits misses.quiet_at_first → ⊥ }
-    ensures lost_with_room { IsLegal copy.limits misses.lost_with_room → ⊥ }
+    ensures lost_with_room { IsLegal copied.limits misses.lost_with_room → ⊥ }
     ensures told_without_room { IsLegal lost.limits misses.told_without_room → ⊥ }
-    ensures lower_vif { IsLegal two.limits misses.lower_vif → ⊥ }
+    ensures lower_vif { IsLegal shared.limits misses.lower_vif → ⊥ }
     ensures other_message { IsLegal release.limits misses.other_message → ⊥ }
     ensures read_twice { IsLegal release.limits misses.read_twice → ⊥ }
     ensures read_by_another { IsLegal leaving.limits misses.read_by_another → ⊥ }
@@ -87,8 +93,8 @@ pub fn report_near_misses()
 /// A packet that waits expires at the tick that makes ten seconds full, not at the one before, and not a
 /// millisecond early; and an entry that another admin made is static in the ending.
 pub fn ending_near_misses()
-    ensures early { ending old.limits old.history ≡ misses.early_tail → ⊥ }
-    ensures short_ticks { ending old.limits misses.short_ticks ≡ old.tail → ⊥ }
+    ensures early { ending expiring.limits expiring.history ≡ misses.early_tail → ⊥ }
+    ensures short_ticks { ending expiring.limits misses.short_ticks ≡ expiring.tail → ⊥ }
     ensures plain { ending leaving.limits leaving.history ≡ misses.plain_tail → ⊥ }
 {}
 

@@ -11,7 +11,7 @@ ghost use Rattle.mr_model.specs.Unread.{accepts, unread};
 ghost use Rattle.mr_rows.specs.NobodyIsTold as untold;
 ghost use Rattle.mr_rows.specs.PimReports as by_pim;
 ghost use Rattle.mr_rows.specs.RegisterCopiesLost as lost;
-ghost use Rattle.mr_rows.specs.RegisterReport as copy;
+ghost use Rattle.mr_rows.specs.RegisterReport as copied;
 ghost use Rattle.mr_rows.specs.ReleasedReports as releases;
 ghost use Rattle.mr_rows.specs.WrongInterface as wrong;
 
@@ -30,9 +30,9 @@ pub fn wrong_interface()
 
 /// A copy on the register vif counts there, and is told to the owner as the whole packet.
 pub fn register_report()
-    ensures legal { IsLegal copy.limits copy.history }
-    ensures ending { ending copy.limits copy.history ≡ copy.tail }
-    ensures lively { IsLively copy.limits copy.history }
+    ensures legal { IsLegal copied.limits copied.history }
+    ensures ending { ending copied.limits copied.history ≡ copied.tail }
+    ensures lively { IsLively copied.limits copied.history }
 {}
 
 /// With 64 unread reports a further copy is lost, though it counts, and a packet that misses is dropped.

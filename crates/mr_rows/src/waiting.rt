@@ -7,7 +7,7 @@ ghost use Rattle.mr_model.specs.Lively.{IsLively};
 ghost use Rattle.mr_model.specs.Now.{now};
 ghost use Rattle.mr_model.specs.Unread.{unread};
 ghost use Rattle.mr_model.specs.Waiting.{waiting};
-ghost use Rattle.mr_rows.specs.Expiry as old;
+ghost use Rattle.mr_rows.specs.Expiry as expiring;
 ghost use Rattle.mr_rows.specs.NobodyOwns as nobody;
 ghost use Rattle.mr_rows.specs.WaitingEntriesFull as full;
 ghost use Rattle.mr_rows.specs.WaitingPacketsReleased as release;
@@ -32,10 +32,10 @@ pub fn nobody_owns()
 
 /// A packet expires at the tick that makes ten seconds full.
 pub fn expiry()
-    ensures legal { IsLegal old.limits old.history }
-    ensures ending { ending old.limits old.history ≡ old.tail }
-    ensures lively { IsLively old.limits old.history }
-    ensures now { now old.history ≡ 10000 }
+    ensures legal { IsLegal expiring.limits expiring.history }
+    ensures ending { ending expiring.limits expiring.history ≡ expiring.tail }
+    ensures lively { IsLively expiring.limits expiring.history }
+    ensures now { now expiring.history ≡ 10000 }
 {}
 
 /// An entry for any origin releases nothing.
