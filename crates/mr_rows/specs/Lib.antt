@@ -31,4 +31,7 @@ pub mod TwoLanes
 pub mod FullSettle
 pub mod NothingHappens
 pub mod DaemonPolls
+pub mod OldLooks
+pub mod ChecksInOrder
+pub mod JoinsWhenFull
 pub mod NearMisses

@@ -15,6 +15,7 @@ ghost use Rattle.mr_model.specs.declared.message.Kind.TheVariants.{NoCache};
 ghost use Rattle.mr_rows.specs.Samples.{daemon, register, report, route_totals, vif};
 ghost use Rattle.mr_rows.specs.ControlErrors as errors;
 ghost use Rattle.mr_rows.specs.CountersStartAgain as again;
+ghost use Rattle.mr_rows.specs.ChecksInOrder as checks;
 ghost use Rattle.mr_rows.specs.ChangedInPlace as changing;
 ghost use Rattle.mr_rows.specs.DaemonPolls as polls;
 ghost use Rattle.mr_rows.specs.FlushedByBits as flushes;
@@ -104,4 +105,11 @@ pub fn owner_changes()
 pub fn daemon_polls()
     ensures legal { IsLegal polls.limits polls.history }
     ensures ending { ending polls.limits polls.history ≡ polls.tail }
+{}
+
+/// Access is checked before a record's length, this before the option, and this before the rules of the request. An
+/// Init of wrong length needs no access, nor does what only reads, and only the owner may leave.
+pub fn checks_in_order()
+    ensures legal { IsLegal checks.limits checks.history }
+    ensures ending { ending checks.limits checks.history ≡ checks.tail }
 {}

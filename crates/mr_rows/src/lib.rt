@@ -10,14 +10,14 @@ mod reports;
 mod waiting;
 
 pub use control::{
-    changed_in_place, control_errors, counters_start_again, daemon_polls, flushed_by_bits,
-    owner_changes, static_by_caller, switches_set, vif_made_again,
+    changed_in_place, checks_in_order, control_errors, counters_start_again, daemon_polls,
+    flushed_by_bits, owner_changes, static_by_caller, switches_set, vif_made_again,
 };
 pub use forwarding::{
     absent_parent, newest_star, ordinary_path, proxy_entry, star_entry, thresholds,
     two_vifs_on_a_device, vif_added_later,
 };
-pub use lanes::{full_settle, nothing_happens, two_lanes};
+pub use lanes::{full_settle, nothing_happens, old_looks, two_lanes};
 pub use near_misses::{
     control_near_misses, ending_near_misses, forwarding_near_misses, lively_near_misses,
     place_near_misses, report_near_misses, waiting_near_misses,
@@ -27,6 +27,6 @@ pub use reports::{
     wrong_interface,
 };
 pub use waiting::{
-    expiry, nobody_owns, waiting_entries_full, waiting_packets_released, waits_from_the_first,
-    wildcard_releases_nothing,
+    expiry, joins_when_full, nobody_owns, waiting_entries_full, waiting_packets_released,
+    waits_from_the_first, wildcard_releases_nothing,
 };

@@ -8,6 +8,7 @@ ghost use Rattle.mr_model.specs.Now.{now};
 ghost use Rattle.mr_model.specs.Unread.{unread};
 ghost use Rattle.mr_model.specs.Waiting.{waiting};
 ghost use Rattle.mr_rows.specs.Expiry as expiring;
+ghost use Rattle.mr_rows.specs.JoinsWhenFull as joining;
 ghost use Rattle.mr_rows.specs.NobodyOwns as nobody;
 ghost use Rattle.mr_rows.specs.WaitingEntriesFull as full;
 ghost use Rattle.mr_rows.specs.WaitingPacketsReleased as release;
@@ -62,4 +63,12 @@ pub fn waits_from_the_first()
     ensures ending { ending first_packet.limits first_packet.history ≡ first_packet.tail }
     ensures unread { unread first_packet.limits first_packet.history ≡ first_packet.reports }
     ensures now { now first_packet.history ≡ 16000 }
+{}
+
+/// A packet joins the waiting entry of its source and group also where no further entry may be made, up to four.
+pub fn joins_when_full()
+    ensures legal { IsLegal joining.limits joining.history }
+    ensures lively { IsLively joining.limits joining.history }
+    ensures ending { ending joining.limits joining.history ≡ joining.tail }
+    ensures waiting { waiting joining.limits joining.history ≡ joining.joined }
 {}
