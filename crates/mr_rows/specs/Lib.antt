@@ -34,4 +34,6 @@ pub mod DaemonPolls
 pub mod OldLooks
 pub mod ChecksInOrder
 pub mod JoinsWhenFull
+pub mod ProxyOfTheParent
+pub mod NoRoomTwice
 pub mod NearMisses

@@ -17,6 +17,7 @@ ghost use Rattle.mr_rows.specs.Thresholds as levels;
 ghost use Rattle.mr_rows.specs.VifAddedLater as later;
 ghost use Rattle.mr_rows.specs.StarEntry as star;
 ghost use Rattle.mr_rows.specs.ProxyEntry as proxied;
+ghost use Rattle.mr_rows.specs.ProxyOfTheParent as by_proxy;
 ghost use Rattle.mr_rows.specs.TwoVifsOnADevice as shared;
 
 /// A packet that meets the entry of its source and group goes out on the vif whose threshold its TTL
@@ -100,4 +101,11 @@ pub fn absent_parent()
 pub fn newest_star()
     ensures legal { IsLegal newest.limits newest.history }
     ensures ending { ending newest.limits newest.history ≡ newest.tail }
+{}
+
+/// An entry for any origin is met, and passes, on each vif that the proxy entry of its parent reaches. An exact entry
+/// does not, and a proxy entry that does not reach the parent is of no help.
+pub fn proxy_of_the_parent()
+    ensures legal { IsLegal by_proxy.limits by_proxy.history }
+    ensures ending { ending by_proxy.limits by_proxy.history ≡ by_proxy.tail }
 {}

@@ -14,8 +14,8 @@ pub use control::{
     flushed_by_bits, owner_changes, static_by_caller, switches_set, vif_made_again,
 };
 pub use forwarding::{
-    absent_parent, newest_star, ordinary_path, proxy_entry, star_entry, thresholds,
-    two_vifs_on_a_device, vif_added_later,
+    absent_parent, newest_star, ordinary_path, proxy_entry, proxy_of_the_parent, star_entry,
+    thresholds, two_vifs_on_a_device, vif_added_later,
 };
 pub use lanes::{full_settle, nothing_happens, old_looks, two_lanes};
 pub use near_misses::{
@@ -27,6 +27,6 @@ pub use reports::{
     wrong_interface,
 };
 pub use waiting::{
-    expiry, joins_when_full, nobody_owns, waiting_entries_full, waiting_packets_released,
-    waits_from_the_first, wildcard_releases_nothing,
+    expiry, joins_when_full, no_room_twice, nobody_owns, waiting_entries_full,
+    waiting_packets_released, waits_from_the_first, wildcard_releases_nothing,
 };

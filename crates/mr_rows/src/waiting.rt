@@ -10,6 +10,7 @@ ghost use Rattle.mr_model.specs.Waiting.{waiting};
 ghost use Rattle.mr_rows.specs.Expiry as expiring;
 ghost use Rattle.mr_rows.specs.JoinsWhenFull as joining;
 ghost use Rattle.mr_rows.specs.NobodyOwns as nobody;
+ghost use Rattle.mr_rows.specs.NoRoomTwice as twice;
 ghost use Rattle.mr_rows.specs.WaitingEntriesFull as full;
 ghost use Rattle.mr_rows.specs.WaitingPacketsReleased as release;
 ghost use Rattle.mr_rows.specs.WaitsFromTheFirst as first_packet;
@@ -71,4 +72,11 @@ pub fn joins_when_full()
     ensures lively { IsLively joining.limits joining.history }
     ensures ending { ending joining.limits joining.history ≡ joining.tail }
     ensures waiting { waiting joining.limits joining.history ≡ joining.joined }
+{}
+
+/// Want of a waiting entry is found before want of room for a report; and a packet that joins needs no report.
+pub fn no_room_twice()
+    ensures legal { IsLegal twice.limits twice.history }
+    ensures lively { IsLively twice.limits twice.history }
+    ensures ending { ending twice.limits twice.history ≡ twice.tail }
 {}
