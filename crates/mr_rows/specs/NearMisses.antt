@@ -12,7 +12,7 @@ use Rattle.mr_model.specs.declared.outcome.Outcome.TheVariants.{Dropped, Parked,
 use Rattle.mr_model.specs.declared.outcome.Report.TheVariants.{Quiet, Told}
 use Rattle.mr_model.specs.declared.reply.Reply.TheVariants.{Good, Sg, Value}
 use Rattle.mr_model.specs.declared.request.Request.TheVariants.{Assert, DelVif, GetVersion, Init, Pim}
-use Rattle.mr_rows.specs.Samples.{addr, source, group, second_group, usual, daemon, lane, mask, add_vif, call, good, refused, tick, recv, report, packet, slow, forward, freed, route, route_totals, fate_line, settle}
+use Rattle.mr_rows.specs.Samples.{addr, source, group, second_group, usual, daemon, lane, mask, add_vif, call, good, refused, tick, recv, report, packet, slow, forward, freed, route, route_totals, fate_line, fast, settle}
 use Rattle.mr_rows.specs.ControlErrors as errors
 use Rattle.mr_rows.specs.CountersStartAgain as again
 use Rattle.mr_rows.specs.Expiry as expiring
@@ -103,6 +103,10 @@ look_ahead = ordinary.start ++ slow 1 6 ordinary.only_packet (forward 4 0 (1 ∷
 abbrev pub look_before_own : List Entry
 look_before_own = take 9 levels.history ++ slow 2 8 (packet 1 source second_group 1) (forward 7 0 []) ∷ []
 
+-- the same of a packet that is forwarded without the lock
+abbrev pub settled_before_own : List Entry
+settled_before_own = take 9 levels.history ++ settle (fast 2 8 (packet 1 source second_group 1) 7 0 [] ∷ []) ∷ []
+
 -- the index of the lane's packet before
 abbrev pub index_again : List Entry
 index_again = wildcard.made ++ slow 1 8 wildcard.flow (forward 7 0 (1 ∷ [])) ∷ []
@@ -133,11 +137,16 @@ fifth_parked = release.four_wait ++ slow 5 8 release.missing Parked ∷ []
 
 -- a packet is released twice, and another one is not
 abbrev pub released_twice : List Entry
-released_twice = release.before_entry ++ Call (daemon 1) release.entry_made Good (freed 1 release.sent ∷ freed 1 release.sent ∷ freed 3 release.sent ∷ freed 4 release.sent ∷ []) ∷ []
+released_twice =
+    release.before_entry
+    ++ Call (daemon 1) release.entry_made Good
+    (freed 1 release.sent ∷ freed 1 release.sent ∷ freed 3 release.sent ∷ freed 4 release.sent ∷ []) ∷ []
 
 -- a packet that a new entry releases is kept back
 abbrev pub kept_back : List Entry
-kept_back = release.before_entry ++ Call (daemon 1) release.entry_made Good (freed 1 release.sent ∷ freed 2 release.sent ∷ freed 3 release.sent ∷ []) ∷ []
+kept_back =
+    release.before_entry
+    ++ Call (daemon 1) release.entry_made Good (freed 1 release.sent ∷ freed 2 release.sent ∷ freed 3 release.sent ∷ []) ∷ []
 
 -- an entry for any origin releases a packet
 abbrev pub wildcard_releases : List Entry
@@ -147,7 +156,7 @@ wildcard_releases = wildcard.parked ++ Call (daemon 1) wildcard.entry_made Good 
 abbrev pub parked_again : List Entry
 parked_again = wildcard.made ++ slow 2 8 wildcard.flow Parked ∷ []
 
--- a packet that nobody is told of is dropped with another cause
+-- a packet that misses where nobody owns the machine is dropped with another cause
 abbrev pub wrong_cause : List Entry
 wrong_cause = nobody.start ++ slow 1 2 nobody.missing (Dropped Upcall) ∷ []
 

@@ -54,6 +54,7 @@ pub fn place_near_misses()
     ensures old_settled_look { IsLegal ordinary.limits misses.old_settled_look → ⊥ }
     ensures look_ahead { IsLegal ordinary.limits misses.look_ahead → ⊥ }
     ensures look_before_own { IsLegal levels.limits misses.look_before_own → ⊥ }
+    ensures settled_before_own { IsLegal levels.limits misses.settled_before_own → ⊥ }
     ensures index_again { IsLegal wildcard.limits misses.index_again → ⊥ }
     ensures short_count_apart { IsLegal shared.limits misses.short_count_apart → ⊥ }
     ensures counted_look { IsLegal shared.limits misses.counted_look → ⊥ }
