@@ -13,6 +13,8 @@ mod reading;
 mod scenario;
 mod status;
 mod stop;
+#[cfg(test)]
+mod tests;
 mod top;
 mod writing;
 
