@@ -9,12 +9,12 @@ use std::thread::Threads;
 /// A run of words over a store that has one file, `f`: its status, and the bytes that were written.
 fn replayed<R: AllocGlobal + Wait + Threads + Sync>(
     rt: &R,
-    words: &[&str],
+    words: &str,
     text: &str,
 ) -> Result<(Status, Vec<u8>), AllocError> {
     let alloc = rt.alloc();
     let mut given = Vec::new(alloc);
-    for word in words {
+    for word in words.split_whitespace() {
         given.push(String::from_str(alloc, word)?)?;
     }
     let file = (FileName::new("f"), Vec::from_slice(alloc, text.as_bytes())?);
@@ -65,7 +65,7 @@ fn histories(rt: HostRuntime) -> Result<(), Fail> {
         ("scenario 1", "history 1\nend\n"),
     ];
     for (text, want) in cases {
-        let (status, written) = replayed(&rt, ["replay", "f"].as_slice(), text)?;
+        let (status, written) = replayed(&rt, "replay f", text)?;
         assert_eq!(rt; status.number(), 0, "at {text}");
         assert_eq!(rt; written.as_slice(), want.as_bytes());
     }
@@ -109,7 +109,7 @@ fn lines_not_built(rt: HostRuntime) -> Result<(), Fail> {
         ),
     ];
     for (text, want) in cases {
-        let (status, written) = replayed(&rt, ["replay", "f"].as_slice(), text)?;
+        let (status, written) = replayed(&rt, "replay f", text)?;
         assert_eq!(rt; status.number(), 12, "at {text}");
         assert_eq!(rt; line_of(&status), want, "at {text}");
         assert_eq!(rt; written.len(), 0);
@@ -120,18 +120,18 @@ fn lines_not_built(rt: HostRuntime) -> Result<(), Fail> {
 #[test]
 fn words_and_files(rt: HostRuntime) -> Result<(), Fail> {
     for words in [
-        ["replay", "out-x"].as_slice(),
-        ["replay"].as_slice(),
-        [].as_slice(),
-        ["replay", ""].as_slice(),
-        ["check", "f"].as_slice(),
-        ["replay", "f", "f"].as_slice(),
+        "",
+        "replay",
+        "replay out-x",
+        "replay f f",
+        "check f",
+        "Replay f",
     ] {
         let (status, written) = replayed(&rt, words, HEAD)?;
         assert_eq!(rt; status.number(), 1);
         assert_eq!(rt; written.len(), 0);
     }
-    let (status, written) = replayed(&rt, ["replay", "g"].as_slice(), HEAD)?;
+    let (status, written) = replayed(&rt, "replay g", HEAD)?;
     assert_eq!(rt; status.number(), 4);
     assert_eq!(rt; written.len(), 0);
     Ok(())
