@@ -16,6 +16,8 @@ mod route_list;
 mod scenario;
 mod status;
 mod stop;
+#[cfg(test)]
+mod tests;
 mod top;
 mod vif_list;
 mod writing;
