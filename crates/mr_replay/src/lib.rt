@@ -15,6 +15,7 @@ mod route_list;
 mod scenario;
 mod status;
 mod stop;
+mod text_words;
 mod top;
 mod vif_list;
 mod writing;
