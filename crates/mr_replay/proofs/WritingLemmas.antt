@@ -37,7 +37,7 @@ regroup o n l d m s g p r t = simp append_assoc
 pub mfc_text : (o x y z : List ℕ) (n d s g p : Word) (ts : List Word) → x ≡ o ++ (n ++ 32 ∷ 99 ∷ 97 ∷ 108 ∷ 108 ∷ 32 ∷ (d ++ 32 ∷ 97 ∷ 100 ∷ 100 ∷ 109 ∷ 102 ∷ 99 ∷ []))
     → y ≡ x ++ 32 ∷ s ++ 32 ∷ g ++ 32 ∷ p ++ flat_map (λ v. 32 ∷ v) ts → z ≡ y ++ 32 ∷ 61 ∷ 32 ∷ 111 ∷ 107 ∷ 10 ∷ []
     → z ≡ o ++ (line (n ∷ codes "call" ∷ d ∷ codes "addmfc" ∷ s ∷ g ∷ p ∷ (ts ++ codes "=" ∷ codes "ok" ∷ [])) ++ [])
-mfc_text o x y z n d s g p ts e f h = rw (h, f, e, mfc_line n d s g p ts) 
+mfc_text o x y z n d s g p ts e f h = rw (h, f, e, mfc_line n d s g p ts)
     (regroup o n (32 ∷ 99 ∷ 97 ∷ 108 ∷ 108 ∷ 32 ∷ []) d (32 ∷ 97 ∷ 100 ∷ 100 ∷ 109 ∷ 102 ∷ 99 ∷ []) (32 ∷ s) (32 ∷ g) (32 ∷ p) (flat_map (λ v. 32 ∷ v) ts) (32 ∷ 61 ∷ 32 ∷ 111 ∷ 107 ∷ 10 ∷ []))
 
 -- the line of a packet that is plainly forwarded

@@ -163,4 +163,3 @@ pub fn write_route_words(out: &mut String, ctl: &MfcCtl) -> Result<(), AllocErro
     write_thresholds(out, &ctl.ttls)?;
     Ok(())
 }
-

@@ -25,7 +25,12 @@ fn write_init(out: &mut String, number: u64, daemon: DaemonNo) -> Result<(), All
 }
 
 /// The line of a good AddVif.
-fn write_add_vif(out: &mut String, number: u64, daemon: DaemonNo, ctl: &VifCtl) -> Result<(), AllocError>
+fn write_add_vif(
+    out: &mut String,
+    number: u64,
+    daemon: DaemonNo,
+    ctl: &VifCtl,
+) -> Result<(), AllocError>
     ensures { OnOk result (string_bytes out.new ≡ string_bytes out.old ++ entry_text number (Call daemon (AddVif ctl.now) Good [])) }
 {
     let daemon = daemon.0;
@@ -38,7 +43,12 @@ fn write_add_vif(out: &mut String, number: u64, daemon: DaemonNo, ctl: &VifCtl) 
 }
 
 /// The line of a good AddMfc.
-fn write_add_mfc(out: &mut String, number: u64, daemon: DaemonNo, ctl: &MfcCtl) -> Result<(), AllocError>
+fn write_add_mfc(
+    out: &mut String,
+    number: u64,
+    daemon: DaemonNo,
+    ctl: &MfcCtl,
+) -> Result<(), AllocError>
     ensures { OnOk result (string_bytes out.new ≡ string_bytes out.old ++ entry_text number (Call daemon (AddMfc ctl.now) Good [])) }
 {
     let daemon = daemon.0;
@@ -49,7 +59,13 @@ fn write_add_mfc(out: &mut String, number: u64, daemon: DaemonNo, ctl: &MfcCtl) 
 }
 
 /// The start of the line of a packet.
-fn write_packet(out: &mut String, number: u64, lane: u32, index: u32, look: u32) -> Result<(), AllocError>
+fn write_packet(
+    out: &mut String,
+    number: u64,
+    lane: u32,
+    index: u32,
+    look: u32,
+) -> Result<(), AllocError>
     ensures { OnOk result (string_bytes out.new ≡ string_bytes out.old ++ decimal number ++ codes " slow" ++ 32 ∷ decimal lane ++ 32 ∷ decimal index ++ 32 ∷ decimal look) }
 {
     write_number(out, number)?;
@@ -61,7 +77,12 @@ fn write_packet(out: &mut String, number: u64, lane: u32, index: u32, look: u32)
 }
 
 /// The end of the line of a plain forward.
-fn write_forward(out: &mut String, entry: u32, input: Option<u8>, outs: Mask) -> Result<(), AllocError>
+fn write_forward(
+    out: &mut String,
+    entry: u32,
+    input: Option<u8>,
+    outs: Mask,
+) -> Result<(), AllocError>
     ensures { OnOk result (string_bytes out.new ≡ string_bytes out.old ++ codes " fwd" ++ 32 ∷ decimal entry ++ 32 ∷ vif_or_none input ++ 32 ∷ mask outs ++ 10 ∷ []) }
 {
     out.push_str(" fwd")?;
@@ -73,7 +94,16 @@ fn write_forward(out: &mut String, entry: u32, input: Option<u8>, outs: Mask) ->
 }
 
 /// The line of a packet that is plainly forwarded.
-fn write_slow(out: &mut String, number: u64, lane: LaneNo, index: u32, look: u32, entry: u32, input: Option<u8>, outs: Mask) -> Result<(), AllocError>
+fn write_slow(
+    out: &mut String,
+    number: u64,
+    lane: LaneNo,
+    index: u32,
+    look: u32,
+    entry: u32,
+    input: Option<u8>,
+    outs: Mask,
+) -> Result<(), AllocError>
     ensures { OnOk result (string_bytes out.new ≡ string_bytes out.old ++ line (decimal number ∷ codes "slow" ∷ decimal lane.0 ∷ decimal index ∷ decimal look ∷ codes "fwd" ∷ decimal entry ∷ vif_or_none input ∷ mask outs ∷ [])) }
 {
     write_packet(out, number, lane.0, index, look)?;
@@ -183,7 +213,12 @@ fn device_word<'a>(devices: &'a [Named], vif: &VifRecord) -> &'a str
 }
 
 /// The line of a live vif.
-fn write_vif(out: &mut String, devices: &[Named], vif: &VifRecord, totals: &VifTotals) -> Result<(), AllocError>
+fn write_vif(
+    out: &mut String,
+    devices: &[Named],
+    vif: &VifRecord,
+    totals: &VifTotals,
+) -> Result<(), AllocError>
     ensures { OnOk result (string_bytes out.new ≡ string_bytes out.old ++ vif_line devices.now (vif.now, totals.now)) }
 {
     let index = vif.vif;
@@ -194,11 +229,18 @@ fn write_vif(out: &mut String, devices: &[Named], vif: &VifRecord, totals: &VifT
         bytes_in,
         bytes_out,
     } = *totals;
-    write!(out, "vif {index} {name} {packets_in} {packets_out} {bytes_in} {bytes_out}\n")
+    write!(
+        out,
+        "vif {index} {name} {packets_in} {packets_out} {bytes_in} {bytes_out}\n"
+    )
 }
 
 /// The lines of the live vifs.
-fn write_vifs(out: &mut String, devices: &[Named], vifs: &[(VifRecord, VifTotals)]) -> Result<(), AllocError>
+fn write_vifs(
+    out: &mut String,
+    devices: &[Named],
+    vifs: &[(VifRecord, VifTotals)],
+) -> Result<(), AllocError>
     ensures { OnOk result (string_bytes out.new ≡ string_bytes out.old ++ flat_map (vif_line devices.now) vifs.now) }
 {
     for (vif, totals) in vifs {
@@ -208,7 +250,13 @@ fn write_vifs(out: &mut String, devices: &[Named], vifs: &[(VifRecord, VifTotals
 }
 
 /// The text of a history whose entries are all of the kinds that are built.
-pub fn write_history(alloc: Global, entries: &[Entry], devices: &[Named], routes: &[(Route, RouteTotals)], vifs: &[(VifRecord, VifTotals)]) -> Result<String, AllocError>
+pub fn write_history(
+    alloc: Global,
+    entries: &[Entry],
+    devices: &[Named],
+    routes: &[(Route, RouteTotals)],
+    vifs: &[(VifRecord, VifTotals)],
+) -> Result<String, AllocError>
     requires { AllBuilt entries.now }
     ensures { IfOk result (λ s. string_bytes s ≡ text [] entries.now devices.now (record { routes = routes.now; vifs = vifs.now; fates = [] })) }
 {
