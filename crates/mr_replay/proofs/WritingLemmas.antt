@@ -37,8 +37,17 @@ regroup o n l d m s g p r t = simp append_assoc
 pub mfc_text : (o x y z : List ℕ) (n d s g p : Word) (ts : List Word) → x ≡ o ++ (n ++ 32 ∷ 99 ∷ 97 ∷ 108 ∷ 108 ∷ 32 ∷ (d ++ 32 ∷ 97 ∷ 100 ∷ 100 ∷ 109 ∷ 102 ∷ 99 ∷ []))
     → y ≡ x ++ 32 ∷ s ++ 32 ∷ g ++ 32 ∷ p ++ flat_map (λ v. 32 ∷ v) ts → z ≡ y ++ 32 ∷ 61 ∷ 32 ∷ 111 ∷ 107 ∷ 10 ∷ []
     → z ≡ o ++ (line (n ∷ codes "call" ∷ d ∷ codes "addmfc" ∷ s ∷ g ∷ p ∷ (ts ++ codes "=" ∷ codes "ok" ∷ [])) ++ [])
-mfc_text o x y z n d s g p ts e f h = rw (h, f, e, mfc_line n d s g p ts) 
+mfc_text o x y z n d s g p ts e f h = rw (h, f, e, mfc_line n d s g p ts)
     (regroup o n (32 ∷ 99 ∷ 97 ∷ 108 ∷ 108 ∷ 32 ∷ []) d (32 ∷ 97 ∷ 100 ∷ 100 ∷ 109 ∷ 102 ∷ 99 ∷ []) (32 ∷ s) (32 ∷ g) (32 ∷ p) (flat_map (λ v. 32 ∷ v) ts) (32 ∷ 61 ∷ 32 ∷ 111 ∷ 107 ∷ 10 ∷ []))
+
+-- the line of a packet that is plainly forwarded
+regroup_slow : (o n a l i k b e v m z : List ℕ) → o ++ n ++ a ++ l ++ i ++ k ++ b ++ e ++ v ++ m ++ z ≡ o ++ ((n ++ (a ++ (l ++ (i ++ (k ++ (b ++ (e ++ (v ++ m)))))))) ++ z)
+regroup_slow o n a l i k b e v m z = simp append_assoc
+
+pub slow_text : (o x y : List ℕ) (n l i k e v m : Word) → x ≡ o ++ n ++ codes " slow" ++ 32 ∷ l ++ 32 ∷ i ++ 32 ∷ k → y ≡ x ++ codes " fwd" ++ 32 ∷ e ++ 32 ∷ v ++ 32 ∷ m ++ 10 ∷ []
+    → y ≡ o ++ line (n ∷ codes "slow" ∷ l ∷ i ∷ k ∷ codes "fwd" ∷ e ∷ v ∷ m ∷ [])
+slow_text o x y n l i k e v m p q =
+    rw (q, p) (regroup_slow o n (codes " slow") (32 ∷ l) (32 ∷ i) (32 ∷ k) (codes " fwd") (32 ∷ e) (32 ∷ v) (32 ∷ m) (10 ∷ []))
 
 -- one more word
 pub commas_on : (first : Bool) (w : List ℕ) (ws : List (List ℕ)) → commas first (w ∷ ws) ≡ (if first then [] else 44 ∷ []) ++ (w ++ commas false ws)

@@ -18,6 +18,7 @@ mod status;
 mod stop;
 #[cfg(test)]
 mod tests;
+mod text_words;
 mod top;
 mod vif_list;
 mod writing;

@@ -1,128 +1,20 @@
 //! A history is written as text.
 
-ghost use Rattle.std.specs.Prelude.{◌≡◌, ◌<◌, ◌++◌, ◌∷◌, ◌==◌, [], List, false, if◌then◌else◌, map, filter, flat_map, decimal, string_bytes, codes, OnOk, IfOk};
-ghost use Rattle.std.specs.List.{AllByRecursion, join_with_byte};
-ghost use Rattle.mr_base.specs.declared.route.Route.{Route};
-ghost use Rattle.mr_model.specs.declared.entry.Entry.TheVariants.{Call, Slow};
-ghost use Rattle.mr_model.specs.declared.outcome.Outcome.TheVariants.{Forward};
+ghost use Rattle.std.specs.Prelude.{◌≡◌, ◌++◌, ◌∷◌, [], flat_map, decimal, string_bytes, codes, OnOk, IfOk};
+ghost use Rattle.mr_model.specs.declared.entry.Entry.TheVariants.{Call};
 ghost use Rattle.mr_model.specs.declared.reply.Reply.TheVariants.{Good};
 ghost use Rattle.mr_model.specs.declared.request.Request.TheVariants.{Init, AddVif, AddMfc};
-ghost use Rattle.mr_model.specs.Verdict.{is_in};
 ghost use Rattle.mr_replay.specs.Built.{IsBuilt, AllBuilt};
-ghost use Rattle.mr_replay.specs.Text.{address, mask, vif_or_none, local_word, thresholds, entry_text, entries_text, route_line, name_at, device_word, vif_line, text};
+ghost use Rattle.mr_replay.specs.Text.{line, mask, vif_or_none, entry_text, entries_text, route_line, name_at, device_word, vif_line, text};
 
 use crate::scenario::Named;
-use mr_base::{Addr, DaemonNo, LaneNo, Mask, Route, VifRecord};
+use crate::text_words::{
+    write_local, write_mask, write_number, write_pair, write_route_words, write_spaced,
+    write_vif_or_none,
+};
+use mr_base::{DaemonNo, LaneNo, Mask, Route, VifRecord};
 use mr_model::{Entry, MfcCtl, Outcome, Reply, Request, RouteTotals, VifCtl, VifTotals};
 use std::alloc::{AllocError, Global};
-
-/// An address as a.b.c.d.
-#[tactic(auto, unfolding(crate::specs::Text::address))]
-fn write_address(out: &mut String, addr: Addr) -> Result<(), AllocError>
-    ensures { OnOk result (string_bytes out.new ≡ string_bytes out.old ++ address addr) }
-{
-    let first = addr.0 / 16_777_216;
-    let second = addr.0 / 65_536 % 256;
-    let third = addr.0 / 256 % 256;
-    let fourth = addr.0 % 256;
-    write!(out, "{first}.{second}.{third}.{fourth}")
-}
-
-/// An origin and a group, each behind a space.
-fn write_pair(out: &mut String, src: Addr, dst: Addr) -> Result<(), AllocError>
-    ensures { OnOk result (string_bytes out.new ≡ string_bytes out.old ++ 32 ∷ address src ++ 32 ∷ address dst) }
-{
-    out.push_str(" ")?;
-    write_address(out, src)?;
-    out.push_str(" ")?;
-    write_address(out, dst)?;
-    Ok(())
-}
-
-/// A space and `V:T`, for a threshold T that isn't 0.
-fn write_threshold(out: &mut String, vif: u8, ttl: u8) -> Result<(), AllocError>
-    ensures { OnOk result (string_bytes out.new ≡ string_bytes out.old ++ flat_map (λ w. 32 ∷ w) (thresholds vif (ttl ∷ []))) }
-{
-    if ttl == 0 {
-        return Ok(());
-    }
-    write!(out, " {vif}:{ttl}")
-}
-
-/// A space and `V:T` for each threshold that isn't 0.
-fn write_thresholds(out: &mut String, ttls: &[u8; 32]) -> Result<(), AllocError>
-    ensures { OnOk result (string_bytes out.new ≡ string_bytes out.old ++ flat_map (λ w. 32 ∷ w) (thresholds 0 ttls.now)) }
-{
-    let mut vif = 0u8;
-    for ttl in ttls {
-        write_threshold(out, vif, *ttl)?;
-        vif += 1;
-    }
-    Ok(())
-}
-
-/// A vif, behind a comma if it isn't the first one.
-fn write_item(out: &mut String, first: bool, vif: u8) -> Result<(), AllocError>
-    ensures { OnOk result (string_bytes out.new ≡ string_bytes out.old ++ (if first then [] else 44 ∷ []) ++ decimal vif) }
-{
-    if first {
-        write!(out, "{vif}")
-    } else {
-        write!(out, ",{vif}")
-    }
-}
-
-/// A vif, if it is in a mask; and whether the next one of the mask is the first.
-fn write_if_in(out: &mut String, first: bool, outs: Mask, vif: u8) -> Result<bool, AllocError>
-    requires { vif < 32 }
-    ensures text { IfOk result (λ f. string_bytes out.new ≡ string_bytes out.old ++ (if is_in outs vif then (if first then [] else 44 ∷ []) ++ decimal vif else [])) }
-    ensures first { IfOk result (λ f. f ≡ (if is_in outs vif then false else first)) }
-{
-    if (outs.0 >> vif) % 2 == 1 {
-        write_item(out, first, vif)?;
-        Ok(false)
-    } else {
-        Ok(first)
-    }
-}
-
-/// The vifs of a mask among those that are given.
-fn write_items(out: &mut String, outs: Mask, indexes: &[u8]) -> Result<(), AllocError>
-    requires { AllByRecursion (λ i. i < 32) indexes.now }
-    ensures { OnOk result (string_bytes out.new ≡ string_bytes out.old ++ join_with_byte 44 (map decimal (filter (is_in outs) indexes.now))) }
-{
-    let mut first = true;
-    for vif in indexes {
-        first = write_if_in(out, first, outs, *vif)?;
-    }
-    Ok(())
-}
-
-/// The vifs of a mask, or `-`.
-#[tactic(auto, unfolding(crate::specs::Text::mask))]
-fn write_mask(out: &mut String, outs: Mask) -> Result<(), AllocError>
-    ensures { OnOk result (string_bytes out.new ≡ string_bytes out.old ++ mask outs) }
-{
-    if outs.0 == 0 {
-        return out.push_str("-");
-    }
-    let indexes: [u8; 32] = [
-        0, 1, 2, 3, 4, 5, 6, 7, 8, 9, 10, 11, 12, 13, 14, 15, 16, 17, 18, 19, 20, 21, 22, 23, 24,
-        25, 26, 27, 28, 29, 30, 31,
-    ];
-    write_items(out, outs, indexes.as_slice())
-}
-
-/// A vif, or `-`.
-#[tactic(auto, unfolding(crate::specs::Text::vif_or_none))]
-fn write_vif_or_none(out: &mut String, vif: Option<u8>) -> Result<(), AllocError>
-    ensures { OnOk result (string_bytes out.new ≡ string_bytes out.old ++ vif_or_none vif) }
-{
-    match vif {
-        Some(vif) => write!(out, "{vif}"),
-        None => out.push_str("-"),
-    }
-}
 
 /// The line of a good Init.
 fn write_init(out: &mut String, number: u64, daemon: DaemonNo) -> Result<(), AllocError>
@@ -132,21 +24,13 @@ fn write_init(out: &mut String, number: u64, daemon: DaemonNo) -> Result<(), All
     write!(out, "{number} call {daemon} init = ok\n")
 }
 
-/// The local field of a vif.
-#[tactic(auto, unfolding(crate::specs::Text::local_word))]
-fn write_local(out: &mut String, ctl: &VifCtl) -> Result<(), AllocError>
-    ensures { OnOk result (string_bytes out.new ≡ string_bytes out.old ++ local_word ctl.now) }
-{
-    if ctl.flags == 8 {
-        let local = ctl.local;
-        write!(out, "@{local}")
-    } else {
-        write_address(out, Addr(ctl.local))
-    }
-}
-
 /// The line of a good AddVif.
-fn write_add_vif(out: &mut String, number: u64, daemon: DaemonNo, ctl: &VifCtl) -> Result<(), AllocError>
+fn write_add_vif(
+    out: &mut String,
+    number: u64,
+    daemon: DaemonNo,
+    ctl: &VifCtl,
+) -> Result<(), AllocError>
     ensures { OnOk result (string_bytes out.new ≡ string_bytes out.old ++ entry_text number (Call daemon (AddVif ctl.now) Good [])) }
 {
     let daemon = daemon.0;
@@ -158,19 +42,13 @@ fn write_add_vif(out: &mut String, number: u64, daemon: DaemonNo, ctl: &VifCtl) 
     Ok(())
 }
 
-/// The words of an entry, each behind a space.
-fn write_route_words(out: &mut String, ctl: &MfcCtl) -> Result<(), AllocError>
-    ensures { OnOk result (string_bytes out.new ≡ string_bytes out.old ++ 32 ∷ address ctl.now.src ++ 32 ∷ address ctl.now.dst ++ 32 ∷ decimal ctl.now.parent ++ flat_map (λ w. 32 ∷ w) (thresholds 0 ctl.now.ttls)) }
-{
-    let parent = ctl.parent;
-    write_pair(out, ctl.src, ctl.dst)?;
-    write!(out, " {parent}")?;
-    write_thresholds(out, &ctl.ttls)?;
-    Ok(())
-}
-
 /// The line of a good AddMfc.
-fn write_add_mfc(out: &mut String, number: u64, daemon: DaemonNo, ctl: &MfcCtl) -> Result<(), AllocError>
+fn write_add_mfc(
+    out: &mut String,
+    number: u64,
+    daemon: DaemonNo,
+    ctl: &MfcCtl,
+) -> Result<(), AllocError>
     ensures { OnOk result (string_bytes out.new ≡ string_bytes out.old ++ entry_text number (Call daemon (AddMfc ctl.now) Good [])) }
 {
     let daemon = daemon.0;
@@ -180,15 +58,56 @@ fn write_add_mfc(out: &mut String, number: u64, daemon: DaemonNo, ctl: &MfcCtl) 
     Ok(())
 }
 
-/// The end of the line of a plain forward.
-fn write_forward(out: &mut String, entry: u32, input: Option<u8>, outs: Mask) -> Result<(), AllocError>
-    ensures { OnOk result (string_bytes out.new ≡ string_bytes out.old ++ decimal entry ++ 32 ∷ vif_or_none input ++ 32 ∷ mask outs ++ 10 ∷ []) }
+/// The start of the line of a packet.
+fn write_packet(
+    out: &mut String,
+    number: u64,
+    lane: u32,
+    index: u32,
+    look: u32,
+) -> Result<(), AllocError>
+    ensures { OnOk result (string_bytes out.new ≡ string_bytes out.old ++ decimal number ++ codes " slow" ++ 32 ∷ decimal lane ++ 32 ∷ decimal index ++ 32 ∷ decimal look) }
 {
-    write!(out, "{entry} ")?;
+    write_number(out, number)?;
+    out.push_str(" slow")?;
+    write_spaced(out, lane)?;
+    write_spaced(out, index)?;
+    write_spaced(out, look)?;
+    Ok(())
+}
+
+/// The end of the line of a plain forward.
+fn write_forward(
+    out: &mut String,
+    entry: u32,
+    input: Option<u8>,
+    outs: Mask,
+) -> Result<(), AllocError>
+    ensures { OnOk result (string_bytes out.new ≡ string_bytes out.old ++ codes " fwd" ++ 32 ∷ decimal entry ++ 32 ∷ vif_or_none input ++ 32 ∷ mask outs ++ 10 ∷ []) }
+{
+    out.push_str(" fwd")?;
+    write_spaced(out, entry)?;
     write_vif_or_none(out, input)?;
-    out.push_str(" ")?;
     write_mask(out, outs)?;
     out.push_str("\n")?;
+    Ok(())
+}
+
+/// The line of a packet that is plainly forwarded.
+fn write_slow(
+    out: &mut String,
+    number: u64,
+    lane: LaneNo,
+    index: u32,
+    look: u32,
+    entry: u32,
+    input: Option<u8>,
+    outs: Mask,
+) -> Result<(), AllocError>
+    ensures { OnOk result (string_bytes out.new ≡ string_bytes out.old ++ line (decimal number ∷ codes "slow" ∷ decimal lane.0 ∷ decimal index ∷ decimal look ∷ codes "fwd" ∷ decimal entry ∷ vif_or_none input ∷ mask outs ∷ [])) }
+{
+    write_packet(out, number, lane.0, index, look)?;
+    write_forward(out, entry, input, outs)?;
     Ok(())
 }
 
@@ -222,11 +141,7 @@ fn write_entry(out: &mut String, number: u64, entry: &Entry) -> Result<(), Alloc
             look,
             outcome: Outcome::Forward { entry, input, outs },
             ..
-        } => {
-            let lane = lane.0;
-            write!(out, "{number} slow {lane} {index} {look} fwd ")?;
-            write_forward(out, *entry, *input, *outs)
-        }
+        } => write_slow(out, number, *lane, *index, *look, *entry, *input, *outs),
         Entry::EndPhase => write!(out, "{number} phase\n"),
         _ => unreachable!(),
     }
@@ -298,7 +213,12 @@ fn device_word<'a>(devices: &'a [Named], vif: &VifRecord) -> &'a str
 }
 
 /// The line of a live vif.
-fn write_vif(out: &mut String, devices: &[Named], vif: &VifRecord, totals: &VifTotals) -> Result<(), AllocError>
+fn write_vif(
+    out: &mut String,
+    devices: &[Named],
+    vif: &VifRecord,
+    totals: &VifTotals,
+) -> Result<(), AllocError>
     ensures { OnOk result (string_bytes out.new ≡ string_bytes out.old ++ vif_line devices.now (vif.now, totals.now)) }
 {
     let index = vif.vif;
@@ -309,11 +229,18 @@ fn write_vif(out: &mut String, devices: &[Named], vif: &VifRecord, totals: &VifT
         bytes_in,
         bytes_out,
     } = *totals;
-    write!(out, "vif {index} {name} {packets_in} {packets_out} {bytes_in} {bytes_out}\n")
+    write!(
+        out,
+        "vif {index} {name} {packets_in} {packets_out} {bytes_in} {bytes_out}\n"
+    )
 }
 
 /// The lines of the live vifs.
-fn write_vifs(out: &mut String, devices: &[Named], vifs: &[(VifRecord, VifTotals)]) -> Result<(), AllocError>
+fn write_vifs(
+    out: &mut String,
+    devices: &[Named],
+    vifs: &[(VifRecord, VifTotals)],
+) -> Result<(), AllocError>
     ensures { OnOk result (string_bytes out.new ≡ string_bytes out.old ++ flat_map (vif_line devices.now) vifs.now) }
 {
     for (vif, totals) in vifs {
@@ -323,7 +250,13 @@ fn write_vifs(out: &mut String, devices: &[Named], vifs: &[(VifRecord, VifTotals
 }
 
 /// The text of a history whose entries are all of the kinds that are built.
-pub fn write_history(alloc: Global, entries: &[Entry], devices: &[Named], routes: &[(Route, RouteTotals)], vifs: &[(VifRecord, VifTotals)]) -> Result<String, AllocError>
+pub fn write_history(
+    alloc: Global,
+    entries: &[Entry],
+    devices: &[Named],
+    routes: &[(Route, RouteTotals)],
+    vifs: &[(VifRecord, VifTotals)],
+) -> Result<String, AllocError>
     requires { AllBuilt entries.now }
     ensures { IfOk result (λ s. string_bytes s ≡ text [] entries.now devices.now (record { routes = routes.now; vifs = vifs.now; fates = [] })) }
 {

@@ -1,6 +1,6 @@
 use Rattle.std.proofs.Common.{◌<◌, length, arith}
 use Rattle.mr_replay.proofs.WritingLemmas.{items_step, fits_step}
-use Rattle.mr_replay.proofs.writing.write_items.Goals as goal
+use Rattle.mr_replay.proofs.text_words.write_items.Goals as goal
 
 pub loop-vif-preserved : goal.loop-vif-preserved
 loop-vif-preserved c =

@@ -1,7 +1,7 @@
 use Rattle.std.proofs.Common.{◌≡◌, ◌++◌, ◌∷◌, drop, string_bytes}
 use Rattle.std.specs.Prelude.{flat_map}
 use Rattle.mr_replay.specs.Text.{thresholds}
-use Rattle.mr_replay.proofs.writing.write_thresholds.Given as goal
+use Rattle.mr_replay.proofs.text_words.write_thresholds.Given as goal
 
 -- the text so far and that of the thresholds left come to that of all thresholds
 abbrev pub invariant-loop-ttl : goal.invariant-loop-ttl

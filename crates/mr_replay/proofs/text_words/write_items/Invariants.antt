@@ -1,7 +1,7 @@
 use Rattle.std.proofs.Common.{◌≡◌, ◌<◌, ◌++◌, true, drop, string_bytes}
 use Rattle.std.specs.List.{AllByRecursion}
 use Rattle.mr_replay.proofs.WritingLemmas.{items}
-use Rattle.mr_replay.proofs.writing.write_items.Given as goal
+use Rattle.mr_replay.proofs.text_words.write_items.Given as goal
 
 -- the text so far and that of the vifs left come to that of all vifs
 abbrev pub invariant-loop-vif : goal.invariant-loop-vif
