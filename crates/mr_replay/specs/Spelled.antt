@@ -83,7 +83,7 @@ route_ctl src dst parent ttls = record { src = record { 0 = src }; dst = record 
 abbrev pub route_of_words : List (List ℕ) → Option MfcCtl
 route_of_words (s ∷ g ∷ p ∷ items) =
     option_and_then (λ src. option_and_then (λ dst. option_and_then (λ parent.
-      option_map (route_ctl src dst parent) (thresholds_from_items (replicate 32 0) (replicate 32 false) items))
+    option_map (route_ctl src dst parent) (thresholds_from_items (replicate 32 0) (replicate 32 false) items))
     (number_of 65535 p)) (address_of g)) (address_of s)
 route_of_words _ = None
 

@@ -13,7 +13,7 @@ use crate::stop::Refusal;
 use mr_base::Addr;
 
 /// The two words of a line, if they are just two.
-pub fn two_words(words: &[u8]) -> Option<(&[u8], &[u8])>
+fn two_words(words: &[u8]) -> Option<(&[u8], &[u8])>
     ensures { MatchOption result (two_of (words_of words.now) ≡ None) (λ x. words_of words.now ≡ x.0.now ∷ x.1.now ∷ []) }
 {
     let (a, rest) = next_word(words)?;
@@ -25,7 +25,7 @@ pub fn two_words(words: &[u8]) -> Option<(&[u8], &[u8])>
 }
 
 /// The one word of a line, if it is just one.
-pub fn one_word(words: &[u8]) -> Option<&[u8]>
+fn one_word(words: &[u8]) -> Option<&[u8]>
     ensures { MatchOption result (one_of (words_of words.now) ≡ None) (λ x. words_of words.now ≡ x.now ∷ []) }
 {
     let (a, rest) = next_word(words)?;

@@ -57,7 +57,7 @@ pub fn hex_of(alloc: Global, word: &[u8]) -> Result<List<u8>, Refusal>
         let Some(byte) = byte_of(*high, *low) else {
             return Err(Refusal::NotBuilt);
         };
-        bytes.push(byte)?;
+        bytes.push_reserved(byte);
         rest = after;
     }
     if !rest.is_empty() {
