@@ -5,7 +5,7 @@ use Rattle.std.proofs.lemmas.List.{length-append, length-map}
 use Rattle.std.proofs.lemmas.List.Sums.{sum_by_push}
 use Rattle.std.proofs.lemmas.Result.{IfOk-at_ok}
 use Rattle.std.specs.List.{AllByRecursion}
-use Rattle.std.specs.Prelude.{sum_by, IfSome, IfOk, nat_lt, nat_le, not, is_none, option_and_then, option_to_list, bytes_eq, codes, map}
+use Rattle.std.specs.Prelude.{sum_by, IfSome, IfOk, nat_lt, nat_le, not, is_none, option_and_then, option_to_list, option_map, bytes_eq, codes, map}
 use Rattle.mr_base.specs.Heads.{cause_of}
 use Rattle.mr_model.specs.Legal.{IsDaemon}
 use Rattle.mr_replay.specs.declared.draft.Draft.{Draft}
@@ -16,10 +16,14 @@ use Rattle.mr_replay.specs.declared.scenario.Phase.{Phase}
 use Rattle.mr_replay.specs.declared.scenario.Scenario.{Scenario}
 use Rattle.mr_replay.specs.declared.scenario.Script.{Script}
 use Rattle.mr_replay.specs.declared.scenario.ScriptLine.{ScriptLine}
-use Rattle.mr_replay.specs.Fits.{Fits, IsPacket}
-use Rattle.mr_replay.specs.Forms.{number_of, address_of, is_device_name, is_taken, device_from, hex_of}
+use Rattle.mr_replay.specs.declared.scenario.Script.TheVariants.{Ask}
+use Rattle.mr_model.specs.declared.request.MfcCtl.{MfcCtl}
+use Rattle.mr_model.specs.declared.request.Request.TheVariants.{AddVif, AddMfc}
+use Rattle.mr_model.specs.declared.request.VifCtl.{VifCtl}
+use Rattle.mr_replay.specs.Fits.{Fits, IsNumbered, AreNumbered, IsPacket}
+use Rattle.mr_replay.specs.Forms.{local_of, number_of, address_of, is_device_name, is_taken, device_from, hex_of}
 use Rattle.mr_replay.specs.Laws.{SpelledFits}
-use Rattle.mr_replay.specs.Spelled.{when, header_line, with_device, device_line, daemon_head, script_of, with_script, with_line, asked_line, script_line, daemon_line_in, phases_so_far, with_phase, phase_line, four_words, with_item, with_packet, packet_line, packet_of_words, lane_line_in, line_by_word, line_of, next_line, line_gives, draft_line, draft_from, empty_draft, is_admin_kind, device_of, limits_of, whole}
+use Rattle.mr_replay.specs.Spelled.{three_of, vif_ctl, vif_of_words, route_of_words, init_of, add_vif_of, add_route_of, when, header_line, with_device, device_line, daemon_head, script_of, with_script, with_line, asked_line, script_line, daemon_line_in, phases_so_far, with_phase, phase_line, four_words, with_item, with_packet, packet_line, packet_of_words, lane_line_in, line_by_word, line_of, next_line, line_gives, draft_line, draft_from, empty_draft, is_admin_kind, device_of, limits_of, whole}
 use Rattle.mr_replay.specs.Words.{lines_of, without_return, words_of}
 use Rattle.mr_replay.proofs.Binds.{some_when, some_if, some_then, ok_then, any_some, ok_if, none_if}
 use Rattle.mr_replay.proofs.Each.{all_weaker, all_push, all_front, all_last}
@@ -28,6 +32,7 @@ use Rattle.mr_replay.proofs.Each.{all_weaker, all_push, all_front, all_last}
 record IsOf (daemons : ℕ) (l : ScriptLine) : Type 0 where
   first : 1 ≤ l.daemon.0
   last : l.daemon.0 ≤ daemons
+  numbered : IsNumbered l.script
 
 -- The phase has items of the one lane alone, with accepted heads, and its lines are of so many daemons.
 record IsFair (daemons : ℕ) (p : Phase) : Type 0 where
@@ -59,7 +64,7 @@ fair_more : (n m : ℕ) → n ≤ m → (ps : List Phase) → AllByRecursion (Is
 fair_more n m le ps a =
     all_weaker (IsFair n) (IsFair m) (λ p f. record {
       items = f.items;
-      lines = all_weaker (IsOf n) (IsOf m) (λ l i. record { first = i.first; last = omega arith }) p.script f.lines;
+      lines = all_weaker (IsOf n) (IsOf m) (λ l i. record { first = i.first; last = omega arith; numbered = i.numbered }) p.script f.lines;
     }) ps a
 
 header_keeps : (d : Draft) (ws : List (List ℕ)) → Keeps d → Kept (header_line d ws)
@@ -164,20 +169,53 @@ item_keeps d p i k now room is =
           (record { items = all_push IsPacket p.items i last.items is; lines = last.lines });
     }
 
-asked_keeps : (n : ℕ) (d : Draft) (p : Phase) (number : ℕ) (s : Script) → Keeps d → d.current ≡ Some p → Kept (asked_line n d p number s)
-asked_keeps n d p number s k now =
+asked_keeps : (n : ℕ) (d : Draft) (p : Phase) (number : ℕ) (s : Script) → Keeps d → d.current ≡ Some p → IsNumbered s → Kept (asked_line n d p number s)
+asked_keeps n d p number s k now by_number =
     some_when (nat_lt 0 number && nat_le number (length d.daemons) && nat_lt d.asked 65536) _ Keeps (λ e.
     let both = and_parts (nat_lt 0 number && nat_le number (length d.daemons)) (nat_lt d.asked 65536) e in
     let among = and_parts (nat_lt 0 number) (nat_le number (length d.daemons)) both.0 in
     line_keeps d p (record { line = n; daemon = record { 0 = number }; script = s }) k now (ltb-true d.asked 65536 both.1)
-    (record { first = ltb-true 0 number among.0; last = leb-true number (length d.daemons) among.1 }))
+    (record { first = ltb-true 0 number among.0; last = leb-true number (length d.daemons) among.1; numbered = by_number }))
+
+-- what a line adds by number
+vif_numbered : (ws : List (List ℕ)) → IfSome (add_vif_of ws) IsNumbered
+vif_numbered ws = by_vif (option_and_then vif_of_words (three_of ws))
+    (some_then vif_of_words (three_of ws) (λ w. Unit {0}) (λ c. c.flags ≡ 8) (any_some (three_of ws)) (λ w _.
+    some_then _ (number_of 65535 w.0) (λ i. Unit {0}) (λ c. c.flags ≡ 8) (any_some (number_of 65535 w.0)) (λ i _.
+    some_when (bytes_eq w.1 (codes "8")) _ (λ c. c.flags ≡ 8) (λ _. by_local i (local_of w.2)))))
+  where
+    by_vif : (o : Option VifCtl) → IfSome o (λ c. c.flags ≡ 8) → IfSome (option_map (λ c. Ask (AddVif c)) o) IsNumbered
+    by_vif None f = tt
+    by_vif (Some c) f = f
+
+    by_local : (i : ℕ) (o : Option ℕ) → IfSome (option_map (vif_ctl i) o) (λ c. c.flags ≡ 8)
+    by_local i None = tt
+    by_local i (Some n) = refl
+
+route_numbered : (ws : List (List ℕ)) → IfSome (add_route_of ws) IsNumbered
+route_numbered ws = by_route (route_of_words ws)
+  where
+    by_route : (o : Option MfcCtl) → IfSome (option_map (λ c. Ask (AddMfc c)) o) IsNumbered
+    by_route None = tt
+    by_route (Some c) = tt
+
+init_numbered : (ws : List (List ℕ)) → IfSome (init_of ws) IsNumbered
+init_numbered [] = tt
+init_numbered (w ∷ ws) = tt
+
+script_numbered : (ws : List (List ℕ)) → IfSome (script_of ws) IsNumbered
+script_numbered [] = tt
+script_numbered (op ∷ ws) =
+    some_if (bytes_eq op (codes "init")) _ _ IsNumbered (init_numbered ws)
+    (some_if (bytes_eq op (codes "addvif")) _ _ IsNumbered (vif_numbered ws)
+    (some_if (bytes_eq op (codes "addmfc")) (add_route_of ws) None IsNumbered (route_numbered ws) tt))
 
 script_keeps : (n : ℕ) (d : Draft) (p : Phase) (ws : List (List ℕ)) → Keeps d → d.current ≡ Some p → Kept (script_line n d p ws)
 script_keeps n d p [] k now = tt
 script_keeps n d p (number ∷ ws) k now =
     some_then (λ i. option_and_then (asked_line n d p i) (script_of ws)) (number_of 8 number) (λ i. Unit {0}) Keeps (any_some (number_of 8 number)) (λ i _.
-    some_then (asked_line n d p i) (script_of ws) (λ s. Unit {0}) Keeps (any_some (script_of ws)) (λ s _.
-    asked_keeps n d p i s k now))
+    some_then (asked_line n d p i) (script_of ws) IsNumbered Keeps (script_numbered ws) (λ s by_number.
+    asked_keeps n d p i s k now by_number))
 
 daemon_in_keeps : (n : ℕ) (d : Draft) (c : Option Phase) (ws : List (List ℕ)) → Keeps d → d.current ≡ c → Kept (daemon_line_in n d c ws)
 daemon_in_keeps n d None ws k now = daemon_keeps d ws k
@@ -258,6 +296,8 @@ whole_fits d k = ok_if d.begun made 1 Fits fits
       daemons = all_weaker (IsFair (length d.daemons)) (λ p. AllByRecursion (λ l. IsDaemon (limits_of d) l.daemon) p.script)
           (λ p f. all_weaker (IsOf (length d.daemons)) (λ l. IsDaemon (limits_of d) l.daemon) (λ l i. record { first = i.first; last = omega (arith, same, i.last) }) p.script f.lines)
           (phases_so_far d) k.fair;
+      numbered = all_weaker (IsFair (length d.daemons)) (λ p. AreNumbered p.script)
+          (λ p f. all_weaker (IsOf (length d.daemons)) (λ l. IsNumbered l.script) (λ l i. i.numbered) p.script f.lines) (phases_so_far d) k.fair;
       one_lane = refl;
       items = all_weaker (IsFair (length d.daemons)) (λ p. AllByRecursion IsPacket p.items) (λ p f. f.items) (phases_so_far d) k.fair;
       packets = ap (λ (n : ℕ). n ∷ []) (sym k.sent);

@@ -6,7 +6,23 @@ use Rattle.mr_model.specs.Legal.{IsDaemon}
 use Rattle.mr_replay.specs.declared.scenario.Given.{Given}
 use Rattle.mr_replay.specs.declared.scenario.Given.TheVariants.{Bytes}
 use Rattle.mr_replay.specs.declared.scenario.Item.{Item}
+use Rattle.mr_replay.specs.declared.scenario.Phase.{Phase}
 use Rattle.mr_replay.specs.declared.scenario.Scenario.{Scenario}
+use Rattle.mr_replay.specs.declared.scenario.Script.{Script}
+use Rattle.mr_replay.specs.declared.scenario.Script.TheVariants.{Ask}
+use Rattle.mr_replay.specs.declared.scenario.ScriptLine.{ScriptLine}
+use Rattle.mr_model.specs.declared.request.Request.TheVariants.{AddVif}
+
+-- a line that adds a vif names its device by number
+abbrev pub IsNumbered : Script → Type 0
+IsNumbered (Ask (AddVif c)) = c.flags ≡ 8
+IsNumbered _ = Unit {0}
+
+abbrev pub AreNumbered : List ScriptLine → Type 0
+AreNumbered ls = AllByRecursion (λ l. IsNumbered l.script) ls
+
+abbrev pub AllNumbered : List Phase → Type 0
+AllNumbered ps = AllByRecursion (λ p. AreNumbered p.script) ps
 
 -- The bytes begin with an accepted head.
 abbrev pub IsAccepted : Given → Type 0
@@ -24,6 +40,7 @@ pub record Fits (s : Scenario) : Type 0 where
   pub admins : length s.limits.admins ≡ length s.daemons
   -- each script line is of a daemon that is declared
   pub daemons : AllByRecursion (λ p. AllByRecursion (λ l. IsDaemon s.limits l.daemon) p.script) s.phases
+  pub numbered : AllNumbered s.phases
   pub one_lane : s.lanes ≡ 1
   -- all items are of that lane
   pub items : AllByRecursion (λ p. AllByRecursion IsPacket p.items) s.phases
