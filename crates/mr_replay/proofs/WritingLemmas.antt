@@ -1,8 +1,10 @@
 -- Texts of lists.
-use Rattle.std.proofs.Common.{◌≡◌, ℕ, Bool, true, false, List, [], ◌∷◌, ◌++◌, map, filter, decimal, codes, length, get_or, drop, ◌<◌, ◌+◌, subst, refl, sym, ap, ◌∙◌}
-use Rattle.std.proofs.lemmas.List.{append_assoc, append-nil, drop_more}
+use Rattle.std.proofs.Common.{◌≡◌, ℕ, Bool, true, false, List, [], ◌∷◌, ◌++◌, map, filter, decimal, codes, zero, suc, ◌<◌, ◌≤◌, ◌+◌, ◌-◌, ◌*◌, ◌/◌, ◌^◌, arith, refl, sym, ap, ◌∙◌}
+use Rattle.std.proofs.Math.Nat.{div-eq_of_lt, lt-div-mul-add}
+use Rattle.std.proofs.Math.Pow.{pow_mono}
+use Rattle.std.proofs.lemmas.List.{append_assoc, append-nil}
 use Rattle.std.specs.Prelude.{flat_map, if◌then◌else◌}
-use Rattle.std.specs.List.{join_with_byte, AllByRecursion}
+use Rattle.std.specs.List.{join_with_byte}
 use Rattle.mr_base.specs.declared.numbers.Mask.{Mask}
 use Rattle.mr_model.specs.Verdict.{is_in}
 use Rattle.mr_replay.specs.Text.{Word, line}
@@ -63,10 +65,45 @@ items_on first outs i is = by_case (is_in outs i) refl
         rw e (commas_on first (decimal i) (map decimal (filter (is_in outs) is)) ∙ sym (append_assoc (if first then [] else 44 ∷ []) (decimal i) (commas false (map decimal (filter (is_in outs) is)))))
     by_case false e = rw e refl
 
--- a step over the vifs of a mask
-pub items_step : (outs : Mask) (first f : Bool) (k : ℕ) (is : List ℕ) (o p t : List ℕ) → k < length is → p ≡ o ++ (if is_in outs (get_or is k 0) then (if first then [] else 44 ∷ []) ++ decimal (get_or is k 0) else []) → f ≡ (if is_in outs (get_or is k 0) then false else first) → o ++ items first outs (drop k is) ≡ t → p ++ items f outs (drop (k + 1) is) ≡ t
-items_step outs first f k is o p t l e g h =
-    rw (e, g) (append_assoc o _ _ ∙ ap (λ x. o ++ x) (sym (items_on first outs (get_or is k 0) (drop (k + 1) is))) ∙ ap (λ x. o ++ items first outs x) (sym (drop_more is k 0 l)) ∙ h)
+-- k numbers from i on
+abbrev pub rising : ℕ → ℕ → List ℕ
+rising zero i = []
+rising (suc k) i = i ∷ rising k (i + 1)
 
-pub fits_step : (k : ℕ) (is : List ℕ) → k < length is → AllByRecursion (λ i. i < 32) (drop k is) → AllByRecursion (λ i. i < 32) (drop (k + 1) is)
-fits_step k is l h = (subst (λ x. AllByRecursion (λ i. i < 32) x) (drop_more is k 0 l) h).1
+-- the numbers from i to 31
+abbrev pub vifs_from : ℕ → List ℕ
+vifs_from i = rising (32 - i) i
+
+vifs_on : (i : ℕ) → i < 32 → vifs_from i ≡ i ∷ vifs_from (i + 1)
+vifs_on i l = ap (λ k. rising k i) (more i l)
+  where
+    more : (i : ℕ) → i < 32 → 32 - i ≡ suc (32 - (i + 1))
+    more i l = omega arith
+
+-- a step over the vifs of a mask
+pub items_step : (outs : Mask) (first f : Bool) (i : ℕ) (o p t : List ℕ) → i < 32 → p ≡ o ++ (if is_in outs i then (if first then [] else 44 ∷ []) ++ decimal i else []) → f ≡ (if is_in outs i then false else first) → o ++ items first outs (vifs_from i) ≡ t → p ++ items f outs (vifs_from (i + 1)) ≡ t
+items_step outs first f i o p t l e g h =
+    rw (e, g) (append_assoc o _ _ ∙ ap (λ x. o ++ x) (sym (items_on first outs i (vifs_from (i + 1)))) ∙ ap (λ x. o ++ items first outs x) (sym (vifs_on i l)) ∙ h)
+
+none_from : (k i : ℕ) (outs : Mask) → outs.0 < 2 ^ i → filter (is_in outs) (rising k i) ≡ []
+none_from zero i outs l = refl
+none_from (suc k) i outs l =
+    let e : outs.0 / 2 ^ i ≡ 0 = div-eq_of_lt l in
+    let m : 2 ^ i ≤ 2 ^ (i + 1) = pow_mono (omega arith) in
+    let n : outs.0 < 2 ^ (i + 1) = omega (arith, l, m) in
+    rw e (none_from k (i + 1) outs n)
+
+commas_none : (first : Bool) → commas first [] ≡ []
+commas_none true = refl
+commas_none false = refl
+
+below : (m i : ℕ) → m / 2 ^ i ≡ 0 → m < 2 ^ i
+below m i e =
+    let l : m < m / 2 ^ i * 2 ^ i + 2 ^ i = lt-div-mul-add (pow_mono {i = 0} {j = i} (omega arith)) in
+    let n : m < 0 * 2 ^ i + 2 ^ i = rw e at l in
+    omega (arith, n)
+
+-- no vif is left where the mask's higher bits are 0
+pub items_end : (outs : Mask) (first : Bool) (i : ℕ) (o t : List ℕ) → outs.0 / 2 ^ i ≡ 0 → o ++ items first outs (vifs_from i) ≡ t → o ≡ t
+items_end outs first i o t e h =
+    sym (append-nil o) ∙ ap (λ x. o ++ x) (sym (ap (λ x. commas first (map decimal x)) (none_from (32 - i) i outs (below outs.0 i e)) ∙ commas_none first)) ∙ h

@@ -1,7 +1,8 @@
 //! The words of a history's text.
 
 ghost use Rattle.std.specs.Prelude.{◌≡◌, ◌<◌, ◌++◌, ◌∷◌, [], false, if◌then◌else◌, map, filter, flat_map, decimal, string_bytes, OnOk, IfOk};
-ghost use Rattle.std.specs.List.{AllByRecursion, join_with_byte};
+ghost use Rattle.std.specs.List.{join_with_byte};
+ghost use Rattle.mr_model.specs.Ending.{indexes};
 ghost use Rattle.mr_model.specs.Verdict.{is_in};
 ghost use Rattle.mr_replay.specs.Text.{address, mask, vif_or_none, local_word, thresholds};
 
@@ -100,14 +101,16 @@ fn write_if_in(out: &mut String, first: bool, outs: Mask, vif: u8) -> Result<boo
     }
 }
 
-/// The vifs of a mask among those that are given.
-fn write_items(out: &mut String, outs: Mask, indexes: &[u8]) -> Result<(), AllocError>
-    requires { AllByRecursion (λ i. i < 32) indexes.now }
-    ensures { OnOk result (string_bytes out.new ≡ string_bytes out.old ++ join_with_byte 44 (map decimal (filter (is_in outs) indexes.now))) }
+/// The vifs of a mask.
+fn write_items(out: &mut String, outs: Mask) -> Result<(), AllocError>
+    ensures { OnOk result (string_bytes out.new ≡ string_bytes out.old ++ join_with_byte 44 (map decimal (filter (is_in outs) indexes))) }
 {
     let mut first = true;
-    for vif in indexes {
-        first = write_if_in(out, first, outs, *vif)?;
+    for vif in 0u8..32 {
+        if outs.0 >> vif == 0 {
+            return Ok(());
+        }
+        first = write_if_in(out, first, outs, vif)?;
     }
     Ok(())
 }
@@ -120,12 +123,8 @@ pub fn write_mask(out: &mut String, outs: Mask) -> Result<(), AllocError>
     if outs.0 == 0 {
         return out.push_str(" -");
     }
-    let indexes: [u8; 32] = [
-        0, 1, 2, 3, 4, 5, 6, 7, 8, 9, 10, 11, 12, 13, 14, 15, 16, 17, 18, 19, 20, 21, 22, 23, 24,
-        25, 26, 27, 28, 29, 30, 31,
-    ];
     out.push_str(" ")?;
-    write_items(out, outs, indexes.as_slice())?;
+    write_items(out, outs)?;
     Ok(())
 }
 
