@@ -16,13 +16,13 @@ use Rattle.mr_model.specs.Outcome.{outcome}
 use Rattle.mr_model.specs.Past.{controls, phases, packets, last_index, last_look, is_end}
 use Rattle.mr_model.proofs.Pushing.{legal_push}
 use Rattle.mr_model.proofs.PushingLists.{controls_push, phases_push, packets_push, last_index_push, last_look_push}
-use Rattle.mr_replay.specs.declared.scenario.Given.{Given}
-use Rattle.mr_replay.specs.declared.scenario.Given.TheVariants.{Bytes}
-use Rattle.mr_replay.specs.declared.scenario.Item.{Item}
-use Rattle.mr_replay.specs.Fits.{IsAccepted, IsPacket}
+use Rattle.mr_scenario.specs.declared.scenario.Given.{Given}
+use Rattle.mr_scenario.specs.declared.scenario.Given.TheVariants.{Bytes}
+use Rattle.mr_scenario.specs.declared.scenario.Item.{Item}
+use Rattle.mr_scenario.specs.Fits.{IsAccepted, IsPacket}
 use Rattle.mr_replay.specs.Made.{sent, asked, flow_of, packet_of, packets_from}
 use Rattle.mr_replay.specs.Played.{with_outcome, play_given, play_item, play_items}
-use Rattle.mr_replay.proofs.Binds.{bind_ok, same_ok}
+use Rattle.mr_scenario.proofs.Binds.{bind_ok, same_ok}
 use Rattle.mr_replay.proofs.Looks.{one, own_before_within, end_within}
 
 -- packet n of the lane, which is looked up last of all, with the machine's outcome

@@ -1,15 +1,9 @@
-pub mod Cuts
-pub mod Numbers
-pub mod Names
 pub mod Bare
 pub mod BuiltEnding
-pub mod Binds
-pub mod Each
 pub mod Looks
 pub mod Lines
 pub mod Items
 pub mod Phases
-pub mod FitsDraft
 pub mod Running
 pub mod TableLemmas
 pub mod WritingLemmas

@@ -14,12 +14,12 @@ use Rattle.mr_model.specs.Legal.{IsDaemon, IsLegal}
 use Rattle.mr_model.specs.Past.{controls, phases, packets, last_index, last_look, is_end}
 use Rattle.mr_model.proofs.Pushing.{legal_push}
 use Rattle.mr_model.proofs.PushingLists.{controls_push, phases_push, packets_push, last_index_push, last_look_push}
-use Rattle.mr_replay.specs.declared.scenario.Script.{Script}
-use Rattle.mr_replay.specs.declared.scenario.Script.TheVariants as script
-use Rattle.mr_replay.specs.declared.scenario.ScriptLine.{ScriptLine}
+use Rattle.mr_scenario.specs.declared.scenario.Script.{Script}
+use Rattle.mr_scenario.specs.declared.scenario.Script.TheVariants as script
+use Rattle.mr_scenario.specs.declared.scenario.ScriptLine.{ScriptLine}
 use Rattle.mr_replay.specs.Made.{sent, asked, of_daemon}
 use Rattle.mr_replay.specs.Played.{is_built, with_call, is_good, play_script, play_line, play_lines}
-use Rattle.mr_replay.proofs.Binds.{bind_ok, same_ok, let_through, passed}
+use Rattle.mr_scenario.proofs.Binds.{bind_ok, same_ok, let_through, passed}
 use Rattle.mr_replay.proofs.Looks.{one}
 
 -- the call that asks r, with the machine's answer

@@ -13,16 +13,16 @@ use Rattle.mr_model.specs.Legal.{IsDaemon, IsLane, IsLegal, packets_given}
 use Rattle.mr_model.specs.Past.{controls, phases, packets, last_index, last_look, is_end}
 use Rattle.mr_model.proofs.Pushing.{legal_push}
 use Rattle.mr_model.proofs.PushingLists.{controls_push, phases_push, packets_push, last_index_push, last_look_push}
-use Rattle.mr_replay.specs.declared.scenario.Item.{Item}
-use Rattle.mr_replay.specs.declared.scenario.Phase.{Phase}
-use Rattle.mr_replay.specs.declared.scenario.Scenario.{Scenario}
-use Rattle.mr_replay.specs.declared.scenario.Script.{Script}
-use Rattle.mr_replay.specs.Fits.{IsPacket}
+use Rattle.mr_scenario.specs.declared.scenario.Item.{Item}
+use Rattle.mr_scenario.specs.declared.scenario.Phase.{Phase}
+use Rattle.mr_scenario.specs.declared.scenario.Scenario.{Scenario}
+use Rattle.mr_scenario.specs.declared.scenario.Script.{Script}
+use Rattle.mr_scenario.specs.Fits.{IsPacket}
 use Rattle.mr_replay.specs.Laws.{PlayedIsLegal}
 use Rattle.mr_replay.specs.Made.{PartOf, MadeFrom, sent_in, sent, asked_in, asked, to_send, items_of, packets_from}
 use Rattle.mr_replay.specs.Played.{play_lines, play_items, play_phase, play_phases}
-use Rattle.mr_replay.specs.Spelled.{◌>>=◌}
-use Rattle.mr_replay.proofs.Binds.{bind_ok, same_ok}
+use Rattle.mr_scenario.specs.Spelled.{◌>>=◌}
+use Rattle.mr_scenario.proofs.Binds.{bind_ok, same_ok}
 use Rattle.mr_replay.proofs.Looks.{one}
 use Rattle.mr_replay.proofs.Lines.{Plays, lines_play}
 use Rattle.mr_replay.proofs.Items.{PlaysItems, items_play}

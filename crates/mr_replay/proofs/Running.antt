@@ -7,14 +7,14 @@ use Rattle.mr_model.specs.declared.ending.Ending.{Ending}
 use Rattle.mr_model.specs.declared.reply.RouteTotals.{RouteTotals}
 use Rattle.mr_model.specs.declared.reply.VifTotals.{VifTotals}
 use Rattle.mr_model.specs.Ending.{ending}
-use Rattle.mr_replay.specs.declared.scenario.Scenario.{Scenario}
+use Rattle.mr_scenario.specs.declared.scenario.Scenario.{Scenario}
 use Rattle.mr_replay.specs.Built.{AllBuilt}
 use Rattle.mr_replay.specs.Endings.{RunsTo}
 use Rattle.mr_replay.specs.Played.{played}
-use Rattle.mr_replay.specs.Spelled.{◌>>=◌, spelled}
+use Rattle.mr_scenario.specs.Spelled.{◌>>=◌, spelled}
 use Rattle.mr_replay.specs.Text.{text}
 use Rattle.mr_replay.proofs.BuiltEnding.{ending_of_built}
-use Rattle.mr_replay.proofs.FitsDraft.{spelled_keeps}
+use Rattle.mr_scenario.proofs.FitsDraft.{spelled_keeps}
 use Rattle.mr_replay.proofs.Phases.{played_legal}
 
 -- an ending without fates

@@ -3,12 +3,12 @@ use Rattle.std.specs.Prelude.{◌≡◌, ℕ, ◌&&◌, Bool, true, false, not, 
 use Rattle.mr_base.specs.Outside.{Files, HasFile, LastCall}
 use Rattle.mr_model.specs.declared.entry.Entry.{Entry}
 use Rattle.mr_model.specs.Legal.{IsLegal}
-use Rattle.mr_replay.specs.declared.scenario.Scenario.{Scenario}
+use Rattle.mr_scenario.specs.declared.scenario.Scenario.{Scenario}
 use Rattle.mr_replay.specs.declared.status.Status.{Status}
 use Rattle.mr_replay.specs.declared.status.Status.TheVariants as status
-use Rattle.mr_replay.specs.declared.stop.Stop.{Stop}
-use Rattle.mr_replay.specs.declared.stop.Stop.TheVariants as stop
-use Rattle.mr_replay.specs.Spelled.{spelled}
+use Rattle.mr_scenario.specs.declared.stop.Stop.{Stop}
+use Rattle.mr_scenario.specs.declared.stop.Stop.TheVariants as stop
+use Rattle.mr_scenario.specs.Spelled.{spelled}
 use Rattle.mr_replay.specs.Played.{outcome_of}
 use Rattle.mr_replay.specs.Made.{Made}
 use Rattle.mr_replay.specs.Text.{history_text}

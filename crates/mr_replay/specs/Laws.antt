@@ -1,20 +1,15 @@
--- Laws of scenarios, of their runs and of their texts.
-use Rattle.std.specs.Prelude.{◌≡◌, ℕ, Ok, List, []}
+-- Laws of the runs of scenarios and of their texts.
+use Rattle.std.specs.Prelude.{◌≡◌, Ok, List, []}
 use Rattle.mr_model.specs.declared.entry.Entry.{Entry}
 use Rattle.mr_model.specs.Ending.{ending}
 use Rattle.mr_model.specs.Fate.{fates}
 use Rattle.mr_model.specs.Legal.{IsLegal}
-use Rattle.mr_replay.specs.declared.scenario.Scenario.{Scenario}
+use Rattle.mr_scenario.specs.declared.scenario.Scenario.{Scenario}
 use Rattle.mr_replay.specs.Built.{AllBuilt}
-use Rattle.mr_replay.specs.Fits.{Fits}
+use Rattle.mr_scenario.specs.Fits.{Fits}
 use Rattle.mr_replay.specs.Made.{Made}
 use Rattle.mr_replay.specs.Played.{played}
-use Rattle.mr_replay.specs.Spelled.{spelled}
 use Rattle.mr_replay.specs.Text.{text, history_text}
-
--- a scenario that bytes spell fits its own limits
-abbrev pub SpelledFits : Type 0
-SpelledFits = (bytes : List ℕ) (s : Scenario) → spelled bytes ≡ Ok s → Fits s
 
 -- the history of a run is legal, and has what the scenario asks
 abbrev pub PlayedIsLegal : Type 0

@@ -1,12 +1,7 @@
-pub mod Words
-pub mod Forms
-pub mod Spelled
 pub mod Made
 pub mod Text
 pub mod Played
-pub mod Fits
 pub mod Built
 pub mod Machines
 pub mod Laws
 pub mod Endings
-pub mod Answers

@@ -3,8 +3,8 @@ use Rattle.std.specs.Prelude.{◌≡◌, ℕ, Result, Ok, Err, List}
 use Rattle.mr_model.specs.declared.entry.Entry.{Entry}
 use Rattle.mr_model.specs.State.{state}
 use Rattle.mr_replay.specs.declared.machine.Machine.{Machine}
-use Rattle.mr_replay.specs.declared.stop.Stop.{Stop}
-use Rattle.mr_replay.specs.declared.stop.Stop.TheVariants as stop
+use Rattle.mr_scenario.specs.declared.stop.Stop.{Stop}
+use Rattle.mr_scenario.specs.declared.stop.Stop.TheVariants as stop
 use Rattle.mr_replay.specs.Built.{AllBuilt}
 
 -- The machine's fields are those of its history, whose entries are all of the kinds that are built.

@@ -6,14 +6,14 @@ use Rattle.mr_model.specs.declared.entry.Entry.{Entry}
 use Rattle.mr_model.specs.declared.entry.Entry.TheVariants.{Call, Slow, Settle, Tick, Recv, EndPhase}
 use Rattle.mr_model.specs.declared.flow.Flow.{Flow}
 use Rattle.mr_model.specs.Past.{is_end}
-use Rattle.mr_replay.specs.declared.scenario.Given.{Given}
-use Rattle.mr_replay.specs.declared.scenario.Given.TheVariants.{Bytes}
-use Rattle.mr_replay.specs.declared.scenario.Item.{Item}
-use Rattle.mr_replay.specs.declared.scenario.Phase.{Phase}
-use Rattle.mr_replay.specs.declared.scenario.Scenario.{Scenario}
-use Rattle.mr_replay.specs.declared.scenario.Script.{Script}
-use Rattle.mr_replay.specs.declared.scenario.Script.TheVariants as script
-use Rattle.mr_replay.specs.declared.scenario.ScriptLine.{ScriptLine}
+use Rattle.mr_scenario.specs.declared.scenario.Given.{Given}
+use Rattle.mr_scenario.specs.declared.scenario.Given.TheVariants.{Bytes}
+use Rattle.mr_scenario.specs.declared.scenario.Item.{Item}
+use Rattle.mr_scenario.specs.declared.scenario.Phase.{Phase}
+use Rattle.mr_scenario.specs.declared.scenario.Scenario.{Scenario}
+use Rattle.mr_scenario.specs.declared.scenario.Script.{Script}
+use Rattle.mr_scenario.specs.declared.scenario.Script.TheVariants as script
+use Rattle.mr_scenario.specs.declared.scenario.ScriptLine.{ScriptLine}
 
 -- a packet as a history names it: its item number and its flow
 pub record Sent : Type 0 where

@@ -9,9 +9,9 @@ use Rattle.mr_model.specs.declared.flow.Flow.{Flow}
 use Rattle.mr_model.specs.declared.outcome.Outcome.{Outcome}
 use Rattle.mr_model.specs.declared.outcome.Outcome.TheVariants.{Forward}
 use Rattle.mr_model.specs.Outcome.{outcome}
-use Rattle.mr_replay.specs.declared.scenario.Given.{Given}
-use Rattle.mr_replay.specs.declared.scenario.Given.TheVariants.{Bytes}
-use Rattle.mr_replay.specs.declared.scenario.Item.{Item}
+use Rattle.mr_scenario.specs.declared.scenario.Given.{Given}
+use Rattle.mr_scenario.specs.declared.scenario.Given.TheVariants.{Bytes}
+use Rattle.mr_scenario.specs.declared.scenario.Item.{Item}
 use Rattle.mr_replay.specs.Made.{flow_of}
 use Rattle.mr_model.specs.declared.limits.Limits.{Limits}
 use Rattle.mr_model.specs.declared.reply.Reply.{Reply}
@@ -19,12 +19,12 @@ use Rattle.mr_model.specs.declared.reply.Reply.TheVariants.{Good}
 use Rattle.mr_model.specs.declared.request.Request.{Request}
 use Rattle.mr_model.specs.declared.request.Request.TheVariants as request
 use Rattle.mr_model.specs.Answer.{Answered, answer}
-use Rattle.mr_replay.specs.declared.scenario.Phase.{Phase}
-use Rattle.mr_replay.specs.declared.scenario.Scenario.{Scenario}
-use Rattle.mr_replay.specs.declared.scenario.Script.{Script}
-use Rattle.mr_replay.specs.declared.scenario.Script.TheVariants as script
-use Rattle.mr_replay.specs.declared.scenario.ScriptLine.{ScriptLine}
-use Rattle.mr_replay.specs.Spelled.{◌>>=◌, spelled}
+use Rattle.mr_scenario.specs.declared.scenario.Phase.{Phase}
+use Rattle.mr_scenario.specs.declared.scenario.Scenario.{Scenario}
+use Rattle.mr_scenario.specs.declared.scenario.Script.{Script}
+use Rattle.mr_scenario.specs.declared.scenario.Script.TheVariants as script
+use Rattle.mr_scenario.specs.declared.scenario.ScriptLine.{ScriptLine}
+use Rattle.mr_scenario.specs.Spelled.{◌>>=◌, spelled}
 
 abbrev pub is_good : Reply → Bool
 is_good Good = true

@@ -35,8 +35,8 @@ use Rattle.mr_model.specs.declared.request.Request.TheVariants as request
 use Rattle.mr_model.specs.declared.request.VifCtl.{VifCtl}
 use Rattle.mr_model.specs.Verdict.{is_in}
 use Rattle.mr_model.specs.Ending.{indexes, ending}
-use Rattle.mr_replay.specs.declared.scenario.Named.{Named}
-use Rattle.mr_replay.specs.declared.scenario.Scenario.{Scenario}
+use Rattle.mr_scenario.specs.declared.scenario.Named.{Named}
+use Rattle.mr_scenario.specs.declared.scenario.Scenario.{Scenario}
 
 abbrev pub Word : Type 0
 Word = List ℕ

@@ -1,13 +1,13 @@
 //! The run of a scenario on one thread.
 
 ghost use Rattle.std.specs.Prelude.{◌++◌, ◌∷◌, [], Ok, IfOk};
-ghost use Rattle.mr_replay.specs.Answers.{Gives};
+ghost use Rattle.mr_scenario.specs.Answers.{Gives};
 ghost use Rattle.mr_replay.specs.Built.{AllBuilt};
 ghost use Rattle.mr_replay.specs.Machines.{Follows, RunsOn};
 ghost use Rattle.mr_replay.specs.Played.{play_script, play_line, play_lines, play_phases, played};
 ghost use Rattle.mr_model.specs.declared.entry.Entry.TheVariants.{EndPhase};
 ghost use Rattle.mr_model.specs.declared.request.Request.TheVariants.{Init};
-ghost use Rattle.mr_replay.specs.declared.scenario.Script.TheVariants.{Ask};
+ghost use Rattle.mr_scenario.specs.declared.scenario.Script.TheVariants.{Ask};
 
 use crate::machine::Machine;
 use crate::scenario::{Phase, Scenario, Script, ScriptLine};

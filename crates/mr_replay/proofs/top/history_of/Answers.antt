@@ -1,5 +1,5 @@
 use Rattle.mr_replay.proofs.Running.{runs}
-use Rattle.mr_replay.proofs.FitsDraft.{spelled_keeps}
+use Rattle.mr_scenario.proofs.FitsDraft.{spelled_keeps}
 use Rattle.mr_replay.proofs.top.history_of.Goals as goal
 
 pub play-requires : goal.play-requires

@@ -1,0 +1,18 @@
+use Rattle.std.proofs.Common.{◌≡◌, ◌∙◌, ap, Result, Ok, Err, IfOk, List, ℕ}
+use Rattle.mr_scenario.specs.declared.scenario.Scenario.{Scenario}
+use Rattle.mr_scenario.specs.declared.stop.Stop.{Stop}
+use Rattle.mr_scenario.specs.Answers.{Gives}
+use Rattle.mr_scenario.specs.Fits.{Fits}
+use Rattle.mr_scenario.specs.Spelled.{◌>>=◌, draft_from, empty_draft, spelled, whole}
+use Rattle.mr_scenario.specs.Words.{lines_of}
+use Rattle.mr_scenario.specs.declared.draft.Draft.{Draft}
+use Rattle.mr_scenario.proofs.FitsDraft.{spelled_keeps}
+use Rattle.mr_scenario.proofs.reading.read.Goals as goal
+
+-- what is read of bytes that spell it fits
+fits_read : (bytes : List ℕ) (d : Draft) (r : Result Scenario Stop) → draft_from 1 empty_draft (lines_of bytes) ≡ Ok d → Gives (λ s. s) r (whole d) → IfOk r Fits
+fits_read bytes d (Ok s) drafted gives = spelled_keeps bytes s (ap (λ t. t >>= whole) drafted ∙ gives)
+fits_read bytes d (Err e) drafted gives = tt
+
+pub returns-clause-fits : goal.returns-clause-fits
+returns-clause-fits c = fits_read c.args.bytes.now c.in_ok-draft.draft c.whole.result c.in_ok-draft.ensures c.whole.ensures

@@ -1,0 +1,18 @@
+//! Scenarios: what a run is asked to do, what the lines of a text spell, and the reader that gives it.
+#![tactic(auto)]
+
+mod cursor;
+mod draft;
+mod forms;
+mod head_lines;
+mod hex;
+mod laws;
+mod phase_lines;
+mod reading;
+mod scenario;
+mod stop;
+
+pub use laws::spelled_fits;
+pub use reading::read;
+pub use scenario::{DaemonKind, Given, Item, Named, Phase, Scenario, Script, ScriptLine};
+pub use stop::Stop;
