@@ -12,3 +12,5 @@ pub mod Phases
 pub mod FitsDraft
 pub mod Running
 pub mod TableLemmas
+pub mod Holding
+pub mod Keeping

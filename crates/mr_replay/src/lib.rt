@@ -5,6 +5,7 @@ mod cursor;
 mod decide;
 mod draft;
 mod forms;
+mod granting;
 mod head_lines;
 mod laws;
 mod machine;
@@ -16,6 +17,7 @@ mod scenario;
 mod status;
 mod stop;
 mod top;
+mod totals;
 mod vif_list;
 mod writing;
 

@@ -1,55 +1,52 @@
 //! The run of a scenario on one thread.
 
-ghost use Rattle.std.specs.Prelude.{◌++◌, ◌∷◌, [], Ok, IfOk};
+ghost use Rattle.std.specs.Prelude.{◌≡◌, ◌≤◌, ◌+◌, ◌++◌, ◌∷◌, [], Ok, IfOk, length};
+ghost use Rattle.std.specs.List.{AllByRecursion};
+ghost use Rattle.mr_base.specs.Heads.{two_at, four_at};
+ghost use Rattle.mr_model.specs.Verdict.{verdict_in};
 ghost use Rattle.mr_replay.specs.Answers.{Gives};
 ghost use Rattle.mr_replay.specs.Built.{AllBuilt};
-ghost use Rattle.mr_replay.specs.Machines.{Follows, RunsOn};
-ghost use Rattle.mr_replay.specs.Played.{play_script, play_line, play_lines, play_phases, played};
-ghost use Rattle.mr_model.specs.declared.entry.Entry.TheVariants.{EndPhase};
-ghost use Rattle.mr_model.specs.declared.request.Request.TheVariants.{Init};
-ghost use Rattle.mr_replay.specs.declared.scenario.Script.TheVariants.{Ask};
+ghost use Rattle.mr_replay.specs.Fits.{Fits, IsAccepted, IsPacket};
+ghost use Rattle.mr_replay.specs.Machines.{Follows, HasRoom, RunsOn, IsNumbered, AreNumbered, AllNumbered, cost, costs};
+ghost use Rattle.mr_replay.specs.Made.{flow_of};
+ghost use Rattle.mr_replay.specs.Played.{play_line, play_lines, play_item, play_items, play_phase, play_phases, played};
+ghost use Rattle.mr_model.specs.declared.entry.Entry.TheVariants.{EndPhase, Slow};
+ghost use Rattle.mr_model.specs.declared.outcome.Outcome.TheVariants as outcome;
+ghost use Rattle.mr_model.specs.declared.verdict.Verdict.TheVariants as verdict;
 
+use crate::granting::{add_mfc, add_vif, init};
+use crate::decide::decide;
 use crate::machine::Machine;
-use crate::scenario::{Phase, Scenario, Script, ScriptLine};
+use crate::scenario::{Given, Item, Phase, Scenario, Script, ScriptLine};
 use crate::stop::Stop;
-use mr_base::{DaemonNo, Few};
-use mr_model::{Entry, Reply, Request};
+use crate::totals::{count_route, count_vifs};
+use mr_base::{Addr, LaneNo, Mask};
+use mr_model::{Entry, Flow, Outcome, Request, Verdict};
 use std::alloc::Global;
-
-/// MRT_INIT of a daemon. A second one would be refused, which is not built.
-fn init(machine: Machine<'_>, line: u32, daemon: DaemonNo) -> Result<Machine<'_>, Stop>
-    requires { Follows machine }
-    ensures { RunsOn machine.entry result (play_script machine.entry.limits.now machine.entry.entries.items line daemon (Ask Init)) }
-{
-    if machine.owner.is_some() {
-        return Err(Stop::NotBuilt(line));
-    }
-    let mut machine = machine;
-    machine.entries.push(Entry::Call {
-        daemon,
-        request: Request::Init,
-        reply: Reply::Good,
-        released: Few::default(),
-    })?;
-    machine.owner = Some(daemon);
-    Ok(machine)
-}
 
 /// One line of a script.
 fn ask<'a>(machine: Machine<'a>, line: &ScriptLine) -> Result<Machine<'a>, Stop>
-    requires { Follows machine }
-    ensures { RunsOn machine.entry result (play_line machine.entry.limits.now machine.entry.entries.items line.now) }
+    requires follows { Follows machine }
+    requires room { HasRoom machine 1 }
+    requires numbered { IsNumbered line.now.script }
+    ensures runs { RunsOn machine.entry result (play_line machine.entry.limits.now machine.entry.entries.items line.now) }
+    ensures grows { IfOk result (λ m. length m.entries.items ≤ length machine.entry.entries.items + 1) }
 {
     match line.script {
         Script::Ask(Request::Init) => init(machine, line.line, line.daemon),
+        Script::Ask(Request::AddVif(c)) => add_vif(machine, line.line, line.daemon, c),
+        Script::Ask(Request::AddMfc(c)) => add_mfc(machine, line.line, line.daemon, c),
         _ => Err(Stop::NotBuilt(line.line)),
     }
 }
 
 /// The lines of a script, one after another.
 fn play_lines<'a>(machine: Machine<'a>, lines: &[ScriptLine]) -> Result<Machine<'a>, Stop>
-    requires { Follows machine }
-    ensures { RunsOn machine.entry result (play_lines machine.entry.limits.now machine.entry.entries.items lines.now) }
+    requires follows { Follows machine }
+    requires room { HasRoom machine (length lines.now) }
+    requires numbered { AreNumbered lines.now }
+    ensures runs { RunsOn machine.entry result (play_lines machine.entry.limits.now machine.entry.entries.items lines.now) }
+    ensures grows { IfOk result (λ m. length m.entries.items ≤ length machine.entry.entries.items + length lines.now) }
 {
     let mut machine = machine;
     for line in lines {
@@ -58,31 +55,140 @@ fn play_lines<'a>(machine: Machine<'a>, lines: &[ScriptLine]) -> Result<Machine<
     Ok(machine)
 }
 
+/// The big-endian number of 16 bits that stands at i.
+fn two_at(bytes: &[u8], i: usize) -> u16
+    requires { i + 2 ≤ length bytes.now }
+    ensures { result ≡ two_at bytes.now i }
+{
+    u16::from(bytes[i]) * 256 + u16::from(bytes[i + 1])
+}
+
+/// The big-endian number of 32 bits that stands at i.
+fn four_at(bytes: &[u8], i: usize) -> u32
+    requires { i + 4 ≤ length bytes.now }
+    ensures { result ≡ four_at bytes.now i }
+{
+    u32::from(two_at(bytes, i)) * 65536 + u32::from(two_at(bytes, i + 2))
+}
+
+/// The flow of a packet with an accepted head, which came on a device.
+fn flow_of(dev: u32, bytes: &[u8]) -> Flow
+    requires { 20 ≤ length bytes.now }
+    ensures { result ≡ flow_of dev bytes.now }
+{
+    Flow {
+        dev,
+        src: Addr(four_at(bytes, 12)),
+        dst: Addr(four_at(bytes, 16)),
+        ttl: bytes[8],
+        length: two_at(bytes, 2),
+    }
+}
+
+/// A packet is forwarded plainly by this entry.
+fn forward<'a>(machine: Machine<'a>, lane: LaneNo, index: u32, flow: Flow, entry: u32, input: Option<u8>, outs: Mask) -> Result<Machine<'a>, Stop>
+    requires follows { Follows machine }
+    requires room { HasRoom machine 1 }
+    requires plain { verdict_in machine.vifs.items machine.routes.items flow.dev flow.src flow.dst flow.ttl ≡ verdict.Forward entry input outs }
+    ensures runs { RunsOn machine.entry result (Ok (machine.entry.entries.items ++ Slow lane index (length machine.entry.entries.items) flow (outcome.Forward entry input outs) ∷ [])) }
+    ensures grows { IfOk result (λ m. length m.entries.items ≤ length machine.entry.entries.items + 1) }
+{
+    let mut machine = machine;
+    let look = machine.entries.as_slice().len() as u32;
+    count_route(machine.route_totals.as_mut_slice(), machine.routes.as_slice(), entry, flow.length);
+    count_vifs(machine.vif_totals.as_mut_slice(), machine.vifs.as_slice(), input, outs, flow.length);
+    machine.entries.push(Entry::Slow {
+        lane,
+        index,
+        look,
+        flow,
+        outcome: Outcome::Forward { entry, input, outs },
+    })?;
+    Ok(machine)
+}
+
+/// One packet of the lane.
+fn play_item<'a>(machine: Machine<'a>, n: u32, item: &Item) -> Result<Machine<'a>, Stop>
+    requires follows { Follows machine }
+    requires room { HasRoom machine 1 }
+    requires accepted { IsAccepted item.now.given }
+    ensures runs { RunsOn machine.entry result (play_item machine.entry.limits.now machine.entry.entries.items n item.now) }
+    ensures grows { IfOk result (λ m. length m.entries.items ≤ length machine.entry.entries.items + 1) }
+{
+    let Given::Bytes(bytes) = &item.given;
+    let flow = flow_of(item.dev, bytes.0.as_slice());
+    let verdict = decide(machine.vifs.as_slice(), machine.routes.as_slice(), flow.dev, flow.src, flow.dst, flow.ttl);
+    match verdict {
+        Verdict::Forward { entry, input, outs } => forward(machine, item.lane, n, flow, entry, input, outs),
+        _ => Err(Stop::NotBuilt(item.line)),
+    }
+}
+
+/// The packets of the lane, one after another; the first has number `first`.
+fn play_items<'a>(machine: Machine<'a>, first: u32, items: &[Item]) -> Result<Machine<'a>, Stop>
+    requires follows { Follows machine }
+    requires room { HasRoom machine (length items.now) }
+    requires numbers { first + length items.now ≤ 4194304 }
+    requires packets { AllByRecursion IsPacket items.now }
+    ensures runs { RunsOn machine.entry result (play_items machine.entry.limits.now machine.entry.entries.items first items.now) }
+    ensures grows { IfOk result (λ m. length m.entries.items ≤ length machine.entry.entries.items + length items.now) }
+{
+    let mut machine = machine;
+    let mut n = first;
+    for item in items {
+        machine = play_item(machine, n, item)?;
+        n += 1;
+    }
+    Ok(machine)
+}
+
 /// The end of a phase.
 fn end_phase(machine: Machine<'_>) -> Result<Machine<'_>, Stop>
     requires { Follows machine }
-    ensures { RunsOn machine.entry result (Ok (machine.entry.entries.items ++ EndPhase ∷ [])) }
+    ensures runs { RunsOn machine.entry result (Ok (machine.entry.entries.items ++ EndPhase ∷ [])) }
+    ensures grows { IfOk result (λ m. length m.entries.items ≤ length machine.entry.entries.items + 1) }
 {
     let mut machine = machine;
     machine.entries.push(Entry::EndPhase)?;
     Ok(machine)
 }
 
-/// All phases, one after another.
+/// A phase: the lines of its daemon, the packets of its lane, and its end.
+fn play_phase<'a>(machine: Machine<'a>, first: u32, phase: &Phase) -> Result<Machine<'a>, Stop>
+    requires follows { Follows machine }
+    requires room { HasRoom machine (cost phase.now) }
+    requires numbers { first + length phase.now.items ≤ 4194304 }
+    requires packets { AllByRecursion IsPacket phase.now.items }
+    requires numbered { AreNumbered phase.now.script }
+    ensures runs { RunsOn machine.entry result (play_phase machine.entry.limits.now machine.entry.entries.items first phase.now) }
+    ensures grows { IfOk result (λ m. length m.entries.items ≤ length machine.entry.entries.items + cost phase.now) }
+{
+    let machine = play_lines(machine, phase.script.0.as_slice())?;
+    let machine = play_items(machine, first, phase.items.0.as_slice())?;
+    end_phase(machine)
+}
+
+/// All phases, one after another; the first packet has number `first`.
 fn play_phases<'a>(machine: Machine<'a>, phases: &[Phase]) -> Result<Machine<'a>, Stop>
-    requires { Follows machine }
-    ensures { RunsOn machine.entry result (play_phases machine.entry.limits.now machine.entry.entries.items phases.now) }
+    requires follows { Follows machine }
+    requires room { HasRoom machine (costs phases.now + 1) }
+    requires packets { AllByRecursion (λ p. AllByRecursion IsPacket p.items) phases.now }
+    requires numbered { AllNumbered phases.now }
+    ensures runs { RunsOn machine.entry result (play_phases machine.entry.limits.now machine.entry.entries.items 1 phases.now) }
 {
     let mut machine = machine;
+    let mut first = 1u32;
     for phase in phases {
-        machine = play_lines(machine, phase.script.0.as_slice())?;
-        machine = end_phase(machine)?;
+        machine = play_phase(machine, first, phase)?;
+        first += phase.items.0.as_slice().len() as u32;
     }
     Ok(machine)
 }
 
-/// The history of a scenario's run, or the line of its first call that is not built.
+/// The history of a scenario's run, or the line of its first call or packet that is not built.
 pub fn play(alloc: Global, scenario: &Scenario) -> Result<Vec<Entry>, Stop>
+    requires fits { Fits scenario.now }
+    requires numbered { AllNumbered scenario.now.phases }
     ensures history { Gives (λ v. v.items) result (played scenario.now) }
     ensures built { IfOk result (λ v. AllBuilt v.items) }
 {
@@ -90,6 +196,10 @@ pub fn play(alloc: Global, scenario: &Scenario) -> Result<Vec<Entry>, Stop>
         limits: &scenario.limits,
         entries: Vec::new(alloc),
         owner: None,
+        vifs: Vec::new(alloc),
+        vif_totals: Vec::new(alloc),
+        routes: Vec::new(alloc),
+        route_totals: Vec::new(alloc),
     };
     let machine = play_phases(machine, scenario.phases.0.as_slice())?;
     Ok(machine.entries)

@@ -1,0 +1,88 @@
+-- What one more entry does to what a machine keeps.
+use Rattle.std.proofs.Common.{◌≡◌, ◌≤◌, ◌<◌, ℕ, ◌+◌, Bool, true, false, Option, Some, None, Result, Ok, Err, List, [], ◌∷◌, ◌++◌, length, refl, sym, ap, ◌∙◌, arith, append-nil, length-append, subst}
+use Rattle.std.specs.Prelude.{not, ◌==◌, ◌||◌, if◌then◌else◌}
+use Rattle.std.specs.List.{list_any}
+use Rattle.mr_base.specs.declared.errno.Errno.{Errno}
+use Rattle.mr_base.specs.declared.numbers.DaemonNo.{DaemonNo}
+use Rattle.mr_base.specs.declared.route.Route.{Route}
+use Rattle.mr_base.specs.declared.vif_record.VifRecord.{VifRecord}
+use Rattle.mr_model.specs.declared.entry.Entry.{Entry}
+use Rattle.mr_model.specs.declared.entry.Entry.TheVariants.{Call, Slow, EndPhase}
+use Rattle.mr_model.specs.declared.limits.Limits.{Limits}
+use Rattle.mr_model.specs.declared.reply.Reply.TheVariants.{Good}
+use Rattle.mr_model.specs.declared.reply.RouteTotals.{RouteTotals}
+use Rattle.mr_model.specs.declared.reply.VifTotals.{VifTotals}
+use Rattle.mr_model.specs.declared.request.MfcCtl.{MfcCtl}
+use Rattle.mr_model.specs.declared.request.VifCtl.{VifCtl}
+use Rattle.mr_model.specs.declared.request.Request.TheVariants.{Init, AddVif, AddMfc}
+use Rattle.mr_model.specs.Answer.{is_admin, answer, release}
+use Rattle.mr_model.specs.Counts.{Met, met_in, met}
+use Rattle.mr_model.specs.RouteList.{is_named, new_route, changed_route, change_first, add_route_error}
+use Rattle.mr_model.specs.State.{State, state, step, is_owner, with_route}
+use Rattle.mr_model.specs.VifList.{new_vif, add_vif_error}
+use Rattle.mr_model.proofs.Pushing.{state_push}
+use Rattle.mr_model.proofs.PushingLists.{met_push}
+use Rattle.mr_replay.specs.Built.{IsBuilt, AllBuilt}
+use Rattle.mr_replay.specs.Machines.{tables, Holds, Keeps, no_route_totals, no_vif_totals, routes_set, totals_set}
+use Rattle.mr_replay.specs.Played.{play_script}
+use Rattle.mr_replay.specs.declared.scenario.Script.TheVariants.{Ask}
+use Rattle.mr_replay.proofs.Each.{all_push}
+use Rattle.mr_replay.proofs.Holding.{holds_more, holds_vif, holds_set}
+
+length_push : (h : List Entry) (e : Entry) → length (h ++ e ∷ []) ≡ length h + 1
+length_push h e = length-append h (e ∷ [])
+
+-- one more entry, by what it does to the tables and to the totals
+pub keeps_push : (limits : Limits) (h : List Entry) (e : Entry) (o p : Option DaemonNo) (vs ws : List VifRecord) (vt wt : List VifTotals) (rs qs : List Route) (rt qt : List RouteTotals) (ms : List Met)
+    → Keeps limits h o vs vt rs rt → IsBuilt e → step limits (tables (length h) o vs rs) e ≡ tables (length h + 1) p ws qs
+    → met_in h e ≡ ms → Holds (length h + 1) (met h ++ ms) ws wt qs qt → Keeps limits (h ++ e ∷ []) p ws wt qs qt
+keeps_push limits h e o p vs ws vt wt rs qs rt qt ms k is_built steps meets holds = record {
+  state_is = state_push limits h e ∙ ap (λ s. step limits s e) k.state_is ∙ steps ∙ ap (λ n. tables n p ws qs) (sym (length_push h e));
+  built = all_push IsBuilt h e k.built is_built;
+  devices = k.devices;
+  holds = rw (length_push h e, met_push h e, meets) holds;
+}
+
+-- one that meets nothing
+quiet : (limits : Limits) (h : List Entry) (e : Entry) (o p : Option DaemonNo) (vs ws : List VifRecord) (vt wt : List VifTotals) (rs qs : List Route) (rt qt : List RouteTotals)
+    → Keeps limits h o vs vt rs rt → IsBuilt e → step limits (tables (length h) o vs rs) e ≡ tables (length h + 1) p ws qs
+    → met_in h e ≡ [] → Holds (length h + 1) (met h) ws wt qs qt → Keeps limits (h ++ e ∷ []) p ws wt qs qt
+quiet limits h e o p vs ws vt wt rs qs rt qt k is_built steps meets holds =
+    keeps_push limits h e o p vs ws vt wt rs qs rt qt [] k is_built steps meets (rw (append-nil (met h)) holds)
+
+pub init_keeps : (limits : Limits) (h : List Entry) (d : DaemonNo) (o : Option DaemonNo) (vs : List VifRecord) (vt : List VifTotals) (rs : List Route) (rt : List RouteTotals)
+    → Keeps limits h o vs vt rs rt → Keeps limits (h ++ Call d Init Good [] ∷ []) (Some d) vs vt rs rt
+init_keeps limits h d o vs vt rs rt k =
+    quiet limits h (Call d Init Good []) o (Some d) vs vs vt vt rs rs rt rt k tt refl refl (holds_more (length h) (met h) vs vt rs rt k.holds)
+
+pub end_keeps : (limits : Limits) (h : List Entry) (o : Option DaemonNo) (vs : List VifRecord) (vt : List VifTotals) (rs : List Route) (rt : List RouteTotals)
+    → Keeps limits h o vs vt rs rt → Keeps limits (h ++ EndPhase ∷ []) o vs vt rs rt
+end_keeps limits h o vs vt rs rt k =
+    quiet limits h EndPhase o o vs vs vt vt rs rs rt rt k tt refl refl (holds_more (length h) (met h) vs vt rs rt k.holds)
+
+pub vif_keeps : (limits : Limits) (h : List Entry) (d : DaemonNo) (c : VifCtl) (fixed : Bool) (o : Option DaemonNo) (vs : List VifRecord) (vt : List VifTotals) (rs : List Route) (rt : List RouteTotals)
+    → Keeps limits h o vs vt rs rt → c.flags ≡ 8 → c.vif < 32 → ((s : State) → s.owner ≡ o → not (is_owner s d) ≡ fixed)
+    → Keeps limits (h ++ Call d (AddVif c) Good [] ∷ []) o (vs ++ new_vif limits.devices c fixed (length h + 1) ∷ []) (vt ++ no_vif_totals ∷ []) rs rt
+vif_keeps limits h d c fixed o vs vt rs rt k flags small owner =
+    quiet limits h (Call d (AddVif c) Good []) o o vs _ vt _ rs rs rt rt k flags
+    (ap (λ b. tables (length h + 1) o (vs ++ new_vif limits.devices c b (length h + 1) ∷ []) rs) (owner (tables (length h) o vs rs) refl))
+    refl (holds_vif (length h) (met h) vs vt rs rt (new_vif limits.devices c fixed (length h + 1)) k.holds small refl)
+
+-- MRT_ADD_MFC on tables where nothing waits
+sets : (n : ℕ) (d : DaemonNo) (c : MfcCtl) (fixed : Bool) (o : Option DaemonNo) (vs : List VifRecord) (rs : List Route) → not (is_owner (tables n o vs rs) d) ≡ fixed
+    → with_route (tables n o vs rs) d c None ≡ tables n o vs (routes_set vs c fixed (n + 1) rs)
+sets n d c fixed o vs rs owner = rw owner (by_test (list_any (is_named c.src c.dst None) rs))
+  where
+    by_test : (b : Bool) → ◌≡◌ {A = State}
+        (if b then tables n o vs (change_first (is_named c.src c.dst None) (changed_route vs c fixed) rs) else tables n o vs (new_route vs c fixed (n + 1) ∷ rs))
+        (tables n o vs (if b then change_first (is_named c.src c.dst None) (changed_route vs c fixed) rs else new_route vs c fixed (n + 1) ∷ rs))
+    by_test true = refl
+    by_test false = refl
+
+pub route_keeps : (limits : Limits) (h : List Entry) (d : DaemonNo) (c : MfcCtl) (fixed : Bool) (o : Option DaemonNo) (vs : List VifRecord) (vt : List VifTotals) (rs : List Route) (rt : List RouteTotals)
+    → Keeps limits h o vs vt rs rt → ((s : State) → s.owner ≡ o → not (is_owner s d) ≡ fixed)
+    → Keeps limits (h ++ Call d (AddMfc c) Good [] ∷ []) o vs vt (routes_set vs c fixed (length h + 1) rs) (totals_set c rs rt)
+route_keeps limits h d c fixed o vs vt rs rt k owner =
+    quiet limits h (Call d (AddMfc c) Good []) o o vs vs vt vt rs _ rt _ k tt
+    (ap (λ (s : State). record s { count = s.count + 1 }) (sets (length h) d c fixed o vs rs (owner (tables (length h) o vs rs) refl)))
+    refl (holds_set (length h) (met h) vs vt rs rt c fixed k.holds)
