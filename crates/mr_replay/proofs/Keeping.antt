@@ -1,6 +1,6 @@
 -- What one more entry does to what a machine keeps.
 use Rattle.std.proofs.Common.{◌≡◌, ◌≤◌, ◌<◌, ℕ, ◌+◌, Bool, true, false, Option, Some, None, Result, Ok, Err, List, [], ◌∷◌, ◌++◌, length, refl, sym, ap, ◌∙◌, arith, append-nil, length-append, subst}
-use Rattle.std.specs.Prelude.{not, ◌==◌, ◌||◌, if◌then◌else◌}
+use Rattle.std.specs.Prelude.{is_some, IfNone, not, ◌==◌, ◌||◌, if◌then◌else◌}
 use Rattle.std.specs.List.{list_any}
 use Rattle.mr_base.specs.declared.errno.Errno.{Errno}
 use Rattle.mr_base.specs.declared.numbers.DaemonNo.{DaemonNo}
@@ -86,3 +86,80 @@ route_keeps limits h d c fixed o vs vt rs rt k owner =
     quiet limits h (Call d (AddMfc c) Good []) o o vs vs vt vt rs _ rt _ k tt
     (ap (λ (s : State). record s { count = s.count + 1 }) (sets (length h) d c fixed o vs rs (owner (tables (length h) o vs rs) refl)))
     refl (holds_set (length h) (met h) vs vt rs rt c fixed k.holds)
+
+-- MRT_INIT as a run plays it: good where nobody is the owner, else not built
+pub init_runs : (limits : Limits) (h : List Entry) (line : ℕ) (d : DaemonNo) (vs : List VifRecord) (vt : List VifTotals) (rs : List Route) (rt : List RouteTotals)
+    → Keeps limits h None vs vt rs rt → play_script limits h line d (Ask Init) ≡ Ok (h ++ Call d Init Good [] ∷ [])
+init_runs limits h line d vs vt rs rt k = rw k.state_is refl
+
+pub init_stops : (limits : Limits) (h : List Entry) (line : ℕ) (d o : DaemonNo) (vs : List VifRecord) (vt : List VifTotals) (rs : List Route) (rt : List RouteTotals)
+    → Keeps limits h (Some o) vs vt rs rt → play_script limits h line d (Ask Init) ≡ Err line
+init_stops limits h line d o vs vt rs rt k = rw k.state_is refl
+
+-- a setting call: what no check refuses is played, and else its line is not built
+pub vif_runs : (limits : Limits) (h : List Entry) (line : ℕ) (d : DaemonNo) (c : VifCtl) (o : Option DaemonNo) (vs : List VifRecord) (vt : List VifTotals) (rs : List Route) (rt : List RouteTotals)
+    → Keeps limits h o vs vt rs rt → ((s : State) → s.owner ≡ o → (is_owner s d || is_admin limits d) ≡ true) → add_vif_error limits.devices vs c ≡ None
+    → play_script limits h line d (Ask (AddVif c)) ≡ Ok (h ++ Call d (AddVif c) Good [] ∷ [])
+vif_runs limits h line d c o vs vt rs rt k may good = rw (k.state_is, may (tables (length h) o vs rs) refl, good) refl
+
+pub vif_stops : (limits : Limits) (h : List Entry) (line : ℕ) (d : DaemonNo) (c : VifCtl) (o : Option DaemonNo) (vs : List VifRecord) (vt : List VifTotals) (rs : List Route) (rt : List RouteTotals)
+    → Keeps limits h o vs vt rs rt → ((s : State) → s.owner ≡ o → (is_owner s d || is_admin limits d) ≡ true) → (errno : Errno) → add_vif_error limits.devices vs c ≡ Some errno
+    → play_script limits h line d (Ask (AddVif c)) ≡ Err line
+vif_stops limits h line d c o vs vt rs rt k may errno bad = rw (k.state_is, may (tables (length h) o vs rs) refl, bad) refl
+
+pub vif_denied : (limits : Limits) (h : List Entry) (line : ℕ) (d : DaemonNo) (c : VifCtl) (o : Option DaemonNo) (vs : List VifRecord) (vt : List VifTotals) (rs : List Route) (rt : List RouteTotals)
+    → Keeps limits h o vs vt rs rt → ((s : State) → s.owner ≡ o → (is_owner s d || is_admin limits d) ≡ false)
+    → play_script limits h line d (Ask (AddVif c)) ≡ Err line
+vif_denied limits h line d c o vs vt rs rt k may = rw (k.state_is, may (tables (length h) o vs rs) refl) refl
+
+pub route_denied : (limits : Limits) (h : List Entry) (line : ℕ) (d : DaemonNo) (c : MfcCtl) (o : Option DaemonNo) (vs : List VifRecord) (vt : List VifTotals) (rs : List Route) (rt : List RouteTotals)
+    → (c.src.0 == 0) ≡ false → Keeps limits h o vs vt rs rt → ((s : State) → s.owner ≡ o → (is_owner s d || is_admin limits d) ≡ false)
+    → play_script limits h line d (Ask (AddMfc c)) ≡ Err line
+route_denied limits h line d c o vs vt rs rt exact k may = rw (exact, k.state_is, may (tables (length h) o vs rs) refl) refl
+
+pub route_stops : (limits : Limits) (h : List Entry) (line : ℕ) (d : DaemonNo) (c : MfcCtl) (o : Option DaemonNo) (vs : List VifRecord) (vt : List VifTotals) (rs : List Route) (rt : List RouteTotals)
+    → (c.src.0 == 0) ≡ false → Keeps limits h o vs vt rs rt → ((s : State) → s.owner ≡ o → (is_owner s d || is_admin limits d) ≡ true) → (errno : Errno) → add_route_error limits.entries rs c None ≡ Some errno
+    → play_script limits h line d (Ask (AddMfc c)) ≡ Err line
+route_stops limits h line d c o vs vt rs rt exact k may errno bad = rw (exact, k.state_is, may (tables (length h) o vs rs) refl, bad) refl
+
+-- nothing waits, so nothing is released
+no_release : (s : State) (r : Route) (b : Bool) → release s r (if b then [] else []) ≡ []
+no_release s r true = refl
+no_release s r false = refl
+
+pub route_runs : (limits : Limits) (h : List Entry) (line : ℕ) (d : DaemonNo) (c : MfcCtl) (o : Option DaemonNo) (vs : List VifRecord) (vt : List VifTotals) (rs : List Route) (rt : List RouteTotals)
+    → (c.src.0 == 0) ≡ false → Keeps limits h o vs vt rs rt → ((s : State) → s.owner ≡ o → (is_owner s d || is_admin limits d) ≡ true) → add_route_error limits.entries rs c None ≡ None
+    → play_script limits h line d (Ask (AddMfc c)) ≡ Ok (h ++ Call d (AddMfc c) Good [] ∷ [])
+route_runs limits h line d c o vs vt rs rt exact k may good =
+    rw (exact, k.state_is, may (tables (length h) o vs rs) refl, good)
+    (ap (λ x. Ok (h ++ Call d (AddMfc c) Good x ∷ [])) (no_release _ _ (list_any (is_named c.src c.dst None) rs)))
+
+none_of : {A : Type 0} (o : Option A) → is_some o ≡ false → o ≡ None
+none_of None e = refl
+none_of (Some x) e = absurd (cc)
+
+-- what a good call comes to
+abbrev pub Goes : Limits → List Entry → Result (List Entry) ℕ → List Entry → Option DaemonNo → List VifRecord → List VifTotals → List Route → List RouteTotals → Type 0
+Goes limits h run g o vs vt rs rt = (run ≡ Ok g) × Keeps limits g o vs vt rs rt
+
+pub init_goes : (limits : Limits) (h : List Entry) (line : ℕ) (d : DaemonNo) (o : Option DaemonNo) (vs : List VifRecord) (vt : List VifTotals) (rs : List Route) (rt : List RouteTotals)
+    → Keeps limits h o vs vt rs rt → is_some o ≡ false → Goes limits h (play_script limits h line d (Ask Init)) (h ++ Call d Init Good [] ∷ []) (Some d) vs vt rs rt
+init_goes limits h line d o vs vt rs rt k none =
+    (init_runs limits h line d vs vt rs rt (rw (none_of o none) at k), init_keeps limits h d o vs vt rs rt k)
+
+pub vif_goes : (limits : Limits) (h : List Entry) (line : ℕ) (d : DaemonNo) (c : VifCtl) (owns : Bool) (err : Option Errno) (o : Option DaemonNo) (vs : List VifRecord) (vt : List VifTotals) (rs : List Route) (rt : List RouteTotals)
+    → Keeps limits h o vs vt rs rt → c.flags ≡ 8 → err ≡ add_vif_error limits.devices vs c → is_some err ≡ false → IfNone err (c.vif < 32)
+    → ((s : State) → s.owner ≡ o → (is_owner s d || is_admin limits d) ≡ true) → ((s : State) → s.owner ≡ o → is_owner s d ≡ owns)
+    → Goes limits h (play_script limits h line d (Ask (AddVif c))) (h ++ Call d (AddVif c) Good [] ∷ []) o (vs ++ new_vif limits.devices c (not owns) (length h + 1) ∷ []) (vt ++ no_vif_totals ∷ []) rs rt
+vif_goes limits h line d c owns err o vs vt rs rt k flags is none small may own =
+    let good : err ≡ None = none_of err none in
+    (vif_runs limits h line d c o vs vt rs rt k may (sym is ∙ good),
+    vif_keeps limits h d c (not owns) o vs vt rs rt k flags (rw good at small) (λ s e. ap not (own s e)))
+
+pub route_goes : (limits : Limits) (h : List Entry) (line : ℕ) (d : DaemonNo) (c : MfcCtl) (owns : Bool) (err : Option Errno) (o : Option DaemonNo) (vs : List VifRecord) (vt : List VifTotals) (rs : List Route) (rt : List RouteTotals)
+    → Keeps limits h o vs vt rs rt → (c.src.0 == 0) ≡ false → err ≡ add_route_error limits.entries rs c None → is_some err ≡ false
+    → ((s : State) → s.owner ≡ o → (is_owner s d || is_admin limits d) ≡ true) → ((s : State) → s.owner ≡ o → is_owner s d ≡ owns)
+    → Goes limits h (play_script limits h line d (Ask (AddMfc c))) (h ++ Call d (AddMfc c) Good [] ∷ []) o vs vt (routes_set vs c (not owns) (length h + 1) rs) (totals_set c rs rt)
+route_goes limits h line d c owns err o vs vt rs rt k exact is none may own =
+    (route_runs limits h line d c o vs vt rs rt exact k may (sym is ∙ none_of err none),
+    route_keeps limits h d c (not owns) o vs vt rs rt k (λ s e. ap not (own s e)))

@@ -94,6 +94,14 @@ pub record IsSame (m n : Machine) : Type 0 where
   pub vifs : n.vifs ≡ m.vifs
   pub vif_totals : n.vif_totals ≡ m.vif_totals
 
+-- The machines have all but the totals in common.
+pub record IsCounted (m n : Machine) : Type 0 where
+  pub limits : n.limits ≡ m.limits
+  pub entries : n.entries ≡ m.entries
+  pub owner : n.owner ≡ m.owner
+  pub vifs : n.vifs ≡ m.vifs
+  pub routes : n.routes ≡ m.routes
+
 abbrev pub no_route_totals : RouteTotals
 no_route_totals = record { packets = 0; bytes = 0; wrong = 0 }
 

@@ -74,16 +74,17 @@ pub fn add_vif(machine: Machine<'_>, line: u32, daemon: DaemonNo, c: VifCtl) -> 
     ensures runs { RunsOn machine.entry result (play_script machine.entry.limits.now machine.entry.entries.items line daemon (Ask (AddVif c))) }
     ensures grows { IfOk result (λ m. length m.entries.items ≤ length machine.entry.entries.items + 1) }
 {
-    if !may_set(machine.owner, machine.limits, daemon) {
+    let limits = machine.limits;
+    if !may_set(machine.owner, limits, daemon) {
         return Err(Stop::NotBuilt(line));
     }
-    if add_vif_error(machine.limits.devices.0.as_slice(), machine.vifs.as_slice(), &c).is_some() {
+    if add_vif_error(limits.devices.0.as_slice(), machine.vifs.as_slice(), &c).is_some() {
         return Err(Stop::NotBuilt(line));
     }
     let mut machine = machine;
     let number = machine.entries.as_slice().len() as u32 + 1;
     let fixed = !is_owner(machine.owner, daemon);
-    let vif = new_vif(machine.limits.devices.0.as_slice(), &c, fixed, number);
+    let vif = new_vif(limits.devices.0.as_slice(), &c, fixed, number);
     machine.vifs.push(vif)?;
     machine.vif_totals.push(VifTotals::default())?;
     machine.entries.push(Entry::Call {
@@ -117,9 +118,25 @@ fn change_route<'a>(machine: Machine<'a>, fixed: bool, c: &MfcCtl) -> Machine<'a
     ensures routes { result.routes.items ≡ change_first (is_named c.now.src c.now.dst None) (changed_route machine.entry.vifs.items c.now fixed) machine.entry.routes.items }
     ensures totals { result.route_totals.items ≡ machine.entry.route_totals.items }
 {
-    let mut machine = machine;
-    change_first(machine.routes.as_mut_slice(), machine.vifs.as_slice(), c, fixed);
-    machine
+    let Machine {
+        limits,
+        entries,
+        owner,
+        vifs,
+        vif_totals,
+        mut routes,
+        route_totals,
+    } = machine;
+    change_first(routes.as_mut_slice(), vifs.as_slice(), c, fixed);
+    Machine {
+        limits,
+        entries,
+        owner,
+        vifs,
+        vif_totals,
+        routes,
+        route_totals,
+    }
 }
 
 /// The entry that a call names is changed or put in front.
@@ -143,10 +160,14 @@ pub fn add_mfc(machine: Machine<'_>, line: u32, daemon: DaemonNo, c: MfcCtl) -> 
     ensures runs { RunsOn machine.entry result (play_script machine.entry.limits.now machine.entry.entries.items line daemon (Ask (AddMfc c))) }
     ensures grows { IfOk result (λ m. length m.entries.items ≤ length machine.entry.entries.items + 1) }
 {
-    if c.src.0 == 0 || !may_set(machine.owner, machine.limits, daemon) {
+    let limits = machine.limits;
+    if c.src.0 == 0 {
         return Err(Stop::NotBuilt(line));
     }
-    if add_route_error(machine.limits.entries, machine.routes.as_slice(), &c).is_some() {
+    if !may_set(machine.owner, limits, daemon) {
+        return Err(Stop::NotBuilt(line));
+    }
+    if add_route_error(limits.entries, machine.routes.as_slice(), &c).is_some() {
         return Err(Stop::NotBuilt(line));
     }
     let number = machine.entries.as_slice().len() as u32 + 1;

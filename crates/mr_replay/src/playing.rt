@@ -1,13 +1,13 @@
 //! The run of a scenario on one thread.
 
-ghost use Rattle.std.specs.Prelude.{◌≡◌, ◌≤◌, ◌+◌, ◌++◌, ◌∷◌, [], Ok, IfOk, length};
+ghost use Rattle.std.specs.Prelude.{◌≡◌, ◌≤◌, ◌<◌, ◌+◌, ◌++◌, ◌∷◌, [], Ok, IfOk, length};
 ghost use Rattle.std.specs.List.{AllByRecursion};
 ghost use Rattle.mr_base.specs.Heads.{two_at, four_at};
 ghost use Rattle.mr_model.specs.Verdict.{verdict_in};
 ghost use Rattle.mr_replay.specs.Answers.{Gives};
 ghost use Rattle.mr_replay.specs.Built.{AllBuilt};
 ghost use Rattle.mr_replay.specs.Fits.{Fits, IsAccepted, IsPacket};
-ghost use Rattle.mr_replay.specs.Machines.{Follows, HasRoom, RunsOn, IsNumbered, AreNumbered, AllNumbered, cost, costs};
+ghost use Rattle.mr_replay.specs.Machines.{Follows, HasRoom, RunsOn, IsNumbered, AreNumbered, AllNumbered, IsCounted, IsRouteOf, IsVifOf, cost, costs, routes_with, vifs_with};
 ghost use Rattle.mr_replay.specs.Made.{flow_of};
 ghost use Rattle.mr_replay.specs.Played.{play_line, play_lines, play_item, play_items, play_phase, play_phases, played};
 ghost use Rattle.mr_model.specs.declared.entry.Entry.TheVariants.{EndPhase, Slow};
@@ -85,6 +85,39 @@ fn flow_of(dev: u32, bytes: &[u8]) -> Flow
     }
 }
 
+/// One packet more met this entry, and came in and went out on these vifs.
+fn count_packet<'a>(machine: Machine<'a>, entry: u32, input: Option<u8>, outs: Mask, size: u16) -> Machine<'a>
+    requires vifs { length machine.vif_totals.items ≡ length machine.vifs.items }
+    requires routes { length machine.route_totals.items ≡ length machine.routes.items }
+    requires small { AllByRecursion (λ v. v.vif < 32) machine.vifs.items }
+    requires few_vifs { AllByRecursion (IsVifOf 4194304) machine.vif_totals.items }
+    requires few_routes { AllByRecursion (IsRouteOf 4194304) machine.route_totals.items }
+    ensures same { IsCounted machine.entry result }
+    ensures vifs { result.vif_totals.items ≡ vifs_with input outs size machine.entry.vifs.items machine.entry.vif_totals.items }
+    ensures routes { result.route_totals.items ≡ routes_with entry size machine.entry.routes.items machine.entry.route_totals.items }
+{
+    let Machine {
+        limits,
+        entries,
+        owner,
+        vifs,
+        mut vif_totals,
+        routes,
+        mut route_totals,
+    } = machine;
+    count_route(route_totals.as_mut_slice(), routes.as_slice(), entry, size);
+    count_vifs(vif_totals.as_mut_slice(), vifs.as_slice(), input, outs, size);
+    Machine {
+        limits,
+        entries,
+        owner,
+        vifs,
+        vif_totals,
+        routes,
+        route_totals,
+    }
+}
+
 /// A packet is forwarded plainly by this entry.
 fn forward<'a>(machine: Machine<'a>, lane: LaneNo, index: u32, flow: Flow, entry: u32, input: Option<u8>, outs: Mask) -> Result<Machine<'a>, Stop>
     requires follows { Follows machine }
@@ -93,10 +126,8 @@ fn forward<'a>(machine: Machine<'a>, lane: LaneNo, index: u32, flow: Flow, entry
     ensures runs { RunsOn machine.entry result (Ok (machine.entry.entries.items ++ Slow lane index (length machine.entry.entries.items) flow (outcome.Forward entry input outs) ∷ [])) }
     ensures grows { IfOk result (λ m. length m.entries.items ≤ length machine.entry.entries.items + 1) }
 {
-    let mut machine = machine;
     let look = machine.entries.as_slice().len() as u32;
-    count_route(machine.route_totals.as_mut_slice(), machine.routes.as_slice(), entry, flow.length);
-    count_vifs(machine.vif_totals.as_mut_slice(), machine.vifs.as_slice(), input, outs, flow.length);
+    let mut machine = count_packet(machine, entry, input, outs, flow.length);
     machine.entries.push(Entry::Slow {
         lane,
         index,
