@@ -163,3 +163,6 @@ pub route_goes : (limits : Limits) (h : List Entry) (line : ℕ) (d : DaemonNo) 
 route_goes limits h line d c owns err o vs vt rs rt k exact is none may own =
     (route_runs limits h line d c o vs vt rs rt exact k may (sym is ∙ none_of err none),
     route_keeps limits h d c (not owns) o vs vt rs rt k (λ s e. ap not (own s e)))
+
+pub equal_not : (a : ℕ) → (a == 0) ≡ false → (a == 0) ≡ false
+equal_not a e = e

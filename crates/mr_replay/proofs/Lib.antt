@@ -14,3 +14,4 @@ pub mod Running
 pub mod TableLemmas
 pub mod Holding
 pub mod Keeping
+pub mod Packeting
