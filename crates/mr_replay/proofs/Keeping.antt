@@ -1,5 +1,5 @@
 -- What one more entry does to what a machine keeps.
-use Rattle.std.proofs.Common.{◌≡◌, ◌≤◌, ◌<◌, ℕ, ◌+◌, Bool, true, false, Option, Some, None, Result, Ok, Err, List, [], ◌∷◌, ◌++◌, length, refl, sym, ap, ◌∙◌, arith, append-nil, length-append, subst}
+use Rattle.std.proofs.Common.{◌≡◌, ◌≤◌, ◌<◌, ℕ, zero, suc, ◌+◌, Bool, true, false, Option, Some, None, Result, Ok, Err, List, [], ◌∷◌, ◌++◌, length, refl, sym, ap, ◌∙◌, arith, append-nil, length-append, subst}
 use Rattle.std.specs.Prelude.{is_some, IfNone, not, ◌==◌, ◌||◌, if◌then◌else◌}
 use Rattle.std.specs.List.{list_any}
 use Rattle.mr_base.specs.declared.errno.Errno.{Errno}
@@ -164,5 +164,6 @@ route_goes limits h line d c owns err o vs vt rs rt k exact is none may own =
     (route_runs limits h line d c o vs vt rs rt exact k may (sym is ∙ none_of err none),
     route_keeps limits h d c (not owns) o vs vt rs rt k (λ s e. ap not (own s e)))
 
-pub equal_not : (a : ℕ) → (a == 0) ≡ false → (a == 0) ≡ false
-equal_not a e = e
+pub equal_not : (a : ℕ) → (a ≡ 0 → ⊥) → (a == 0) ≡ false
+equal_not zero f = absurd (f refl)
+equal_not (suc a) f = grind arith

@@ -15,3 +15,4 @@ pub mod TableLemmas
 pub mod Holding
 pub mod Keeping
 pub mod Packeting
+pub mod Costing

@@ -28,12 +28,13 @@ use Rattle.mr_model.specs.Verdict.{judge_in, judge_or_miss, missed, verdict_in, 
 use Rattle.mr_model.specs.VifList.{vif_on}
 use Rattle.mr_replay.specs.Machines.{tables, Keeps, IsRouteOf, IsVifOf, routes_with, vifs_with}
 use Rattle.mr_replay.specs.Played.{with_outcome, play_given}
+use Rattle.mr_replay.proofs.Binds.{some_if}
 use Rattle.mr_replay.proofs.Keeping.{keeps_push}
 use Rattle.mr_replay.proofs.Holding.{holds_packet}
 
 find_each : {X : Type 0} (P : X → Type 0) (test : X → Bool) (xs : List X) → AllByRecursion P xs → IfSome (find test xs) P
 find_each P test [] a = tt
-find_each P test (x ∷ xs) a = grind (find_each P test xs a.1, a.0)
+find_each P test (x ∷ xs) a = some_if (test x) (Some x) (find test xs) P a.0 (find_each P test xs a.1)
 
 either_each : (P : Route → Type 0) (a b : Option Route) → IfSome a P → IfSome b P → IfSome (or_else a b) P
 either_each P None b p q = q

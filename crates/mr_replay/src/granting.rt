@@ -1,11 +1,12 @@
 //! The calls that are built: MRT_INIT, MRT_ADD_VIF and MRT_ADD_MFC, each where it is answered `Good`.
 
-ghost use Rattle.std.specs.Prelude.{◌≡◌, ◌≤◌, ◌<◌, ◌+◌, ◌||◌, ◌∷◌, None, IfOk, IfErr, length};
+ghost use Rattle.std.specs.Prelude.{◌≡◌, ◌≤◌, ◌<◌, ◌+◌, ◌||◌, ◌∷◌, None, IfNone, IfOk, IfErr, length};
 ghost use Rattle.mr_model.specs.Answer.{is_admin};
 ghost use Rattle.mr_model.specs.RouteList.{is_named, new_route, changed_route, change_first};
 ghost use Rattle.mr_model.specs.State.{State, is_owner};
+ghost use Rattle.mr_model.specs.VifList.{add_vif_error, new_vif};
 ghost use Rattle.mr_model.specs.declared.request.Request.TheVariants.{Init, AddVif, AddMfc};
-ghost use Rattle.mr_replay.specs.Machines.{Follows, HasRoom, RunsOn, IsSame, no_route_totals, routes_set, totals_set};
+ghost use Rattle.mr_replay.specs.Machines.{Follows, HasRoom, RunsOn, IsSame, no_route_totals, no_vif_totals, routes_set, totals_set};
 ghost use Rattle.mr_replay.specs.Played.{play_script};
 ghost use Rattle.mr_replay.specs.declared.scenario.Script.TheVariants.{Ask};
 ghost use Rattle.mr_replay.specs.declared.stop.Stop.TheVariants as stop;
@@ -14,7 +15,7 @@ use crate::machine::Machine;
 use crate::route_list::{add_route_error, change_first, has_entry, new_route};
 use crate::stop::Stop;
 use crate::vif_list::{add_vif_error, new_vif};
-use mr_base::{DaemonNo, Few};
+use mr_base::{DaemonNo, Errno, Few, VifRecord};
 use mr_model::{Entry, Limits, MfcCtl, Reply, Request, RouteTotals, VifCtl, VifTotals};
 
 /// Whether a daemon is the owner.
@@ -66,6 +67,36 @@ pub fn init(machine: Machine<'_>, line: u32, daemon: DaemonNo) -> Result<Machine
     Ok(machine)
 }
 
+/// Why a vif is not added, if it is not.
+fn vif_error(limits: &Limits, vifs: &[VifRecord], c: &VifCtl) -> Option<Errno>
+    requires { length limits.now.devices ≤ 64 }
+    ensures error { result ≡ add_vif_error limits.now.devices vifs.now c.now }
+    ensures index { IfNone result (c.now.vif < 32) }
+{
+    add_vif_error(limits.devices.0.as_slice(), vifs, c)
+}
+
+/// What a vif that is new has counted.
+fn no_totals() -> VifTotals
+    ensures { result ≡ no_vif_totals }
+{
+    VifTotals {
+        packets_in: 0,
+        packets_out: 0,
+        bytes_in: 0,
+        bytes_out: 0,
+    }
+}
+
+/// The vif that a call adds.
+fn vif_made(limits: &Limits, c: &VifCtl, fixed: bool, number: u32) -> VifRecord
+    requires few { length limits.now.devices ≤ 64 }
+    requires index { c.now.vif < 32 }
+    ensures { result ≡ new_vif limits.now.devices c.now fixed number }
+{
+    new_vif(limits.devices.0.as_slice(), c, fixed, number)
+}
+
 /// MRT_ADD_VIF of a daemon, of a device by its number.
 pub fn add_vif(machine: Machine<'_>, line: u32, daemon: DaemonNo, c: VifCtl) -> Result<Machine<'_>, Stop>
     requires follows { Follows machine }
@@ -74,19 +105,18 @@ pub fn add_vif(machine: Machine<'_>, line: u32, daemon: DaemonNo, c: VifCtl) -> 
     ensures runs { RunsOn machine.entry result (play_script machine.entry.limits.now machine.entry.entries.items line daemon (Ask (AddVif c))) }
     ensures grows { IfOk result (λ m. length m.entries.items ≤ length machine.entry.entries.items + 1) }
 {
-    let limits = machine.limits;
-    if !may_set(machine.owner, limits, daemon) {
+    if !may_set(machine.owner, machine.limits, daemon) {
         return Err(Stop::NotBuilt(line));
     }
-    if add_vif_error(limits.devices.0.as_slice(), machine.vifs.as_slice(), &c).is_some() {
+    if vif_error(machine.limits, machine.vifs.as_slice(), &c).is_some() {
         return Err(Stop::NotBuilt(line));
     }
     let mut machine = machine;
     let number = machine.entries.as_slice().len() as u32 + 1;
     let fixed = !is_owner(machine.owner, daemon);
-    let vif = new_vif(limits.devices.0.as_slice(), &c, fixed, number);
+    let vif = vif_made(machine.limits, &c, fixed, number);
     machine.vifs.push(vif)?;
-    machine.vif_totals.push(VifTotals::default())?;
+    machine.vif_totals.push(no_totals())?;
     machine.entries.push(Entry::Call {
         daemon,
         request: Request::AddVif(c),

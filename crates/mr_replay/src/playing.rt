@@ -119,15 +119,16 @@ fn count_packet<'a>(machine: Machine<'a>, entry: u32, input: Option<u8>, outs: M
 }
 
 /// A packet is forwarded plainly by this entry.
-fn forward<'a>(machine: Machine<'a>, lane: LaneNo, index: u32, flow: Flow, entry: u32, input: Option<u8>, outs: Mask) -> Result<Machine<'a>, Stop>
+fn forward<'a>(machine: Machine<'a>, lane: LaneNo, index: u32, flow: Flow, size: u16, entry: u32, input: Option<u8>, outs: Mask) -> Result<Machine<'a>, Stop>
     requires follows { Follows machine }
+    requires size { size ≡ flow.length }
     requires room { HasRoom machine 1 }
     requires plain { verdict_in machine.vifs.items machine.routes.items flow.dev flow.src flow.dst flow.ttl ≡ verdict.Forward entry input outs }
     ensures runs { RunsOn machine.entry result (Ok (machine.entry.entries.items ++ Slow lane index (length machine.entry.entries.items) flow (outcome.Forward entry input outs) ∷ [])) }
     ensures grows { IfOk result (λ m. length m.entries.items ≤ length machine.entry.entries.items + 1) }
 {
     let look = machine.entries.as_slice().len() as u32;
-    let mut machine = count_packet(machine, entry, input, outs, flow.length);
+    let mut machine = count_packet(machine, entry, input, outs, size);
     machine.entries.push(Entry::Slow {
         lane,
         index,
@@ -150,7 +151,7 @@ fn play_item<'a>(machine: Machine<'a>, n: u32, item: &Item) -> Result<Machine<'a
     let flow = flow_of(item.dev, bytes.0.as_slice());
     let verdict = decide(machine.vifs.as_slice(), machine.routes.as_slice(), flow.dev, flow.src, flow.dst, flow.ttl);
     match verdict {
-        Verdict::Forward { entry, input, outs } => forward(machine, item.lane, n, flow, entry, input, outs),
+        Verdict::Forward { entry, input, outs } => forward(machine, item.lane, n, flow, flow.length, entry, input, outs),
         _ => Err(Stop::NotBuilt(item.line)),
     }
 }

@@ -4,9 +4,9 @@ use Rattle.mr_replay.proofs.granting.add_vif.Goals as goal
 
 pub returns-clause-runs : goal.returns-clause-runs
 returns-clause-runs c =
-    let is = rw (c.as_slice.ensures.value, c.as_slice-2.ensures.value) at c.add_vif_error.ensures.error in
-    let goes = vif_goes c.args.machine.limits.now c.args.machine.entries.items c.args.line c.args.daemon c.args.c _ c.add_vif_error.result c.args.machine.owner _ _ _ _
-        c.requires.follows c.requires.numbered is (sym c.is_some.ensures ∙ c.if-is_some.false) c.add_vif_error.ensures.index
+    let is = rw (c.as_slice.ensures.value) at c.vif_error.ensures.error in
+    let goes = vif_goes c.args.machine.limits.now c.args.machine.entries.items c.args.line c.args.daemon c.args.c _ c.vif_error.result c.args.machine.owner _ _ _ _
+        c.requires.follows c.requires.numbered is (sym c.is_some.ensures ∙ c.if-is_some.false) c.vif_error.ensures.index
         (λ s e. c.may_set.ensures s e ∙ c.if-not-may_set.false) c.is_owner-fixed.ensures in
-    rw (c.in_ok-push-3.ensures.items, c.in_ok-push-2.ensures.items, c.in_ok-push.ensures.items, c.new_vif-vif.ensures, c.default.ensures, c.default-2.ensures, c.as_slice-3.ensures.value, c.as_slice-4.ensures.value)
+    rw (c.in_ok-push-3.ensures.items, c.in_ok-push-2.ensures.items, c.in_ok-push.ensures.items, c.vif_made-vif.ensures, c.no_totals.ensures, c.default.ensures, c.as_slice-2.ensures.value)
     (goes.0, refl, goes.1)
