@@ -36,3 +36,6 @@ not_short false n o e c = grind arith
 pub accepted_long : (bs : List ℕ) → cause_of bs ≡ None → 20 ≤ length bs
 unfolding cause_in
 accepted_long bs e = not_short (nat_lt (length bs) 20) (length bs) _ refl e
+
+pub room_fits : (s : Scenario) → Fits s → costs s.phases ≤ 4194303
+room_fits s f = omega (arith, costs_fit s f)

@@ -9,9 +9,10 @@ ghost use Rattle.mr_replay.specs.Built.{AllBuilt};
 ghost use Rattle.mr_replay.specs.Fits.{Fits, IsAccepted, IsPacket};
 ghost use Rattle.mr_replay.specs.Machines.{Follows, HasRoom, RunsOn, IsNumbered, AreNumbered, AllNumbered, IsCounted, IsRouteOf, IsVifOf, cost, costs, routes_with, vifs_with};
 ghost use Rattle.mr_replay.specs.Made.{flow_of};
-ghost use Rattle.mr_replay.specs.Played.{play_line, play_lines, play_item, play_items, play_phase, play_phases, played};
+ghost use Rattle.mr_replay.specs.Played.{play_line, play_lines, play_given, play_item, play_items, play_phase, play_phases, played};
 ghost use Rattle.mr_model.specs.declared.entry.Entry.TheVariants.{EndPhase, Slow};
 ghost use Rattle.mr_model.specs.declared.outcome.Outcome.TheVariants as outcome;
+ghost use Rattle.mr_replay.specs.declared.scenario.Given.TheVariants.{Bytes};
 ghost use Rattle.mr_model.specs.declared.verdict.Verdict.TheVariants as verdict;
 
 use crate::granting::{add_mfc, add_vif, init};
@@ -21,7 +22,7 @@ use crate::scenario::{Given, Item, Phase, Scenario, Script, ScriptLine};
 use crate::stop::Stop;
 use crate::totals::{count_route, count_vifs};
 use mr_base::{Addr, LaneNo, Mask};
-use mr_model::{Entry, Flow, Outcome, Request, Verdict};
+use mr_model::{Entry, Flow, Limits, Outcome, Request, Verdict};
 use std::alloc::Global;
 
 /// One line of a script.
@@ -139,6 +140,30 @@ fn forward<'a>(machine: Machine<'a>, lane: LaneNo, index: u32, flow: Flow, size:
     Ok(machine)
 }
 
+/// The bytes of a packet.
+fn bytes_of(item: &Item) -> &[u8]
+    ensures { item.now.given ≡ Bytes result.now }
+{
+    let Given::Bytes(bytes) = &item.given;
+    bytes.0.as_slice()
+}
+
+/// One packet of the lane, with an accepted head.
+fn play_bytes<'a>(machine: Machine<'a>, n: u32, line: u32, lane: LaneNo, dev: u32, bytes: &[u8]) -> Result<Machine<'a>, Stop>
+    requires follows { Follows machine }
+    requires room { HasRoom machine 1 }
+    requires accepted { IsAccepted (Bytes bytes.now) }
+    ensures runs { RunsOn machine.entry result (play_given machine.entry.limits.now machine.entry.entries.items line lane n dev (Bytes bytes.now)) }
+    ensures grows { IfOk result (λ m. length m.entries.items ≤ length machine.entry.entries.items + 1) }
+{
+    let flow = flow_of(dev, bytes);
+    let verdict = decide(machine.vifs.as_slice(), machine.routes.as_slice(), flow.dev, flow.src, flow.dst, flow.ttl);
+    match verdict {
+        Verdict::Forward { entry, input, outs } => forward(machine, lane, n, flow, flow.length, entry, input, outs),
+        _ => Err(Stop::NotBuilt(line)),
+    }
+}
+
 /// One packet of the lane.
 fn play_item<'a>(machine: Machine<'a>, n: u32, item: &Item) -> Result<Machine<'a>, Stop>
     requires follows { Follows machine }
@@ -147,13 +172,8 @@ fn play_item<'a>(machine: Machine<'a>, n: u32, item: &Item) -> Result<Machine<'a
     ensures runs { RunsOn machine.entry result (play_item machine.entry.limits.now machine.entry.entries.items n item.now) }
     ensures grows { IfOk result (λ m. length m.entries.items ≤ length machine.entry.entries.items + 1) }
 {
-    let Given::Bytes(bytes) = &item.given;
-    let flow = flow_of(item.dev, bytes.0.as_slice());
-    let verdict = decide(machine.vifs.as_slice(), machine.routes.as_slice(), flow.dev, flow.src, flow.dst, flow.ttl);
-    match verdict {
-        Verdict::Forward { entry, input, outs } => forward(machine, item.lane, n, flow, flow.length, entry, input, outs),
-        _ => Err(Stop::NotBuilt(item.line)),
-    }
+    let bytes = bytes_of(item);
+    play_bytes(machine, n, item.line, item.lane, item.dev, bytes)
 }
 
 /// The packets of the lane, one after another; the first has number `first`.
@@ -217,6 +237,52 @@ fn play_phases<'a>(machine: Machine<'a>, phases: &[Phase]) -> Result<Machine<'a>
     Ok(machine)
 }
 
+/// The limits of a scenario.
+fn limits_of(scenario: &Scenario) -> &Limits
+    ensures { result.now ≡ scenario.now.limits }
+{
+    &scenario.limits
+}
+
+/// The phases of a scenario.
+fn phases_of(scenario: &Scenario) -> &[Phase]
+    ensures { result.now ≡ scenario.now.phases }
+{
+    scenario.phases.0.as_slice()
+}
+
+/// The machine before all.
+fn first_machine<'a>(alloc: Global, limits: &'a Limits) -> Machine<'a>
+    requires { length limits.now.devices ≤ 64 }
+    ensures follows { Follows result }
+    ensures limits { result.limits.now ≡ limits.now }
+    ensures entries { result.entries.items ≡ [] }
+{
+    Machine {
+        limits,
+        entries: Vec::new(alloc),
+        owner: None,
+        vifs: Vec::new(alloc),
+        vif_totals: Vec::new(alloc),
+        routes: Vec::new(alloc),
+        route_totals: Vec::new(alloc),
+    }
+}
+
+/// The machine behind a scenario's run.
+fn machine_of<'a>(alloc: Global, limits: &'a Limits, phases: &[Phase]) -> Result<Machine<'a>, Stop>
+    requires devices { length limits.now.devices ≤ 64 }
+    requires room { costs phases.now ≤ 4194303 }
+    requires packets { AllByRecursion (λ p. AllByRecursion IsPacket p.items) phases.now }
+    requires numbered { AllNumbered phases.now }
+    ensures history { Gives (λ m. m.entries.items) result (play_phases limits.now [] 1 phases.now) }
+    ensures follows { IfOk result Follows }
+    ensures limits { IfOk result (λ m. m.limits.now ≡ limits.now) }
+{
+    let machine = first_machine(alloc, limits);
+    play_phases(machine, phases)
+}
+
 /// The history of a scenario's run, or the line of its first call or packet that is not built.
 pub fn play(alloc: Global, scenario: &Scenario) -> Result<Vec<Entry>, Stop>
     requires fits { Fits scenario.now }
@@ -224,15 +290,8 @@ pub fn play(alloc: Global, scenario: &Scenario) -> Result<Vec<Entry>, Stop>
     ensures history { Gives (λ v. v.items) result (played scenario.now) }
     ensures built { IfOk result (λ v. AllBuilt v.items) }
 {
-    let machine = Machine {
-        limits: &scenario.limits,
-        entries: Vec::new(alloc),
-        owner: None,
-        vifs: Vec::new(alloc),
-        vif_totals: Vec::new(alloc),
-        routes: Vec::new(alloc),
-        route_totals: Vec::new(alloc),
-    };
-    let machine = play_phases(machine, scenario.phases.0.as_slice())?;
+    let limits = limits_of(scenario);
+    let phases = phases_of(scenario);
+    let machine = machine_of(alloc, limits, phases)?;
     Ok(machine.entries)
 }

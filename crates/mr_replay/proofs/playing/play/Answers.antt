@@ -1,6 +1,5 @@
-use Rattle.std.proofs.Common.{arith}
-use Rattle.mr_replay.proofs.Costing.{costs_fit}
+use Rattle.mr_replay.proofs.Costing.{room_fits}
 use Rattle.mr_replay.proofs.playing.play.Goals as goal
 
-pub play_phases-requires-clause-room : goal.play_phases-requires-clause-room
-play_phases-requires-clause-room c = ?
+pub machine_of-requires-clause-room : goal.machine_of-requires-clause-room
+machine_of-requires-clause-room c = rw c.phases_of.ensures (room_fits c.args.scenario.now c.requires.fits)

@@ -1,5 +1,7 @@
-use Rattle.mr_replay.proofs.Costing.{accepted_long}
 use Rattle.mr_replay.proofs.playing.play_item.Goals as goal
 
-pub flow_of-flow-requires : goal.flow_of-flow-requires
-flow_of-flow-requires c = rw c.as_slice.ensures.value (accepted_long _ c.requires.accepted)
+pub play_bytes-requires-clause-accepted : goal.play_bytes-requires-clause-accepted
+play_bytes-requires-clause-accepted c = rw c.bytes_of-bytes.ensures at c.requires.accepted
+
+pub returns-clause-runs : goal.returns-clause-runs
+returns-clause-runs c = rw c.bytes_of-bytes.ensures c.play_bytes.ensures.runs
