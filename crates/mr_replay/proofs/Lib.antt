@@ -16,3 +16,4 @@ pub mod Holding
 pub mod Keeping
 pub mod Packeting
 pub mod Costing
+pub mod Finishing

@@ -160,3 +160,13 @@ abbrev pub vifs_with : Option ℕ → Mask → ℕ → List VifRecord → List V
 vifs_with input outs size (v ∷ vs) (t ∷ ts) =
     vif_with_out (is_in outs v.vif) size (vif_with_in (is_vif input v.vif) size t) ∷ vifs_with input outs size vs ts
 vifs_with input outs size _ ts = []
+
+-- the routes, each with its totals
+abbrev pub route_pairs : List Route → List RouteTotals → List (Route × RouteTotals)
+route_pairs (r ∷ rs) (t ∷ ts) = (r, t) ∷ route_pairs rs ts
+route_pairs _ _ = []
+
+-- the vif with this index, with its totals
+abbrev pub vif_pair_at : List VifRecord → List VifTotals → ℕ → Option (VifRecord × VifTotals)
+vif_pair_at (v ∷ vs) (t ∷ ts) i = if v.vif == i then Some (v, t) else vif_pair_at vs ts i
+vif_pair_at _ _ i = None
