@@ -1,5 +1,5 @@
 -- What the machine keeps, and what a run of it gives.
-use Rattle.std.specs.Prelude.{◌≡◌, ◌≤◌, ◌<◌, ◌+◌, ◌*◌, ℕ, false, Bool, true, Option, Some, None, Result, Ok, Err, List, [], ◌∷◌, length, map, ◌==◌, if◌then◌else◌}
+use Rattle.std.specs.Prelude.{◌≡◌, ◌≤◌, ◌<◌, ◌+◌, ◌*◌, ℕ, false, Bool, true, Option, Some, None, Result, Ok, Err, List, [], ◌∷◌, length, map, find, ◌==◌, if◌then◌else◌}
 use Rattle.std.specs.List.{AllByRecursion, list_any}
 use Rattle.mr_base.specs.declared.numbers.DaemonNo.{DaemonNo}
 use Rattle.mr_base.specs.declared.numbers.Mask.{Mask}
@@ -166,7 +166,10 @@ abbrev pub route_pairs : List Route → List RouteTotals → List (Route × Rout
 route_pairs (r ∷ rs) (t ∷ ts) = (r, t) ∷ route_pairs rs ts
 route_pairs _ _ = []
 
+abbrev pub vif_pairs : List VifRecord → List VifTotals → List (VifRecord × VifTotals)
+vif_pairs (v ∷ vs) (t ∷ ts) = (v, t) ∷ vif_pairs vs ts
+vif_pairs _ _ = []
+
 -- the vif with this index, with its totals
-abbrev pub vif_pair_at : List VifRecord → List VifTotals → ℕ → Option (VifRecord × VifTotals)
-vif_pair_at (v ∷ vs) (t ∷ ts) i = if v.vif == i then Some (v, t) else vif_pair_at vs ts i
-vif_pair_at _ _ i = None
+abbrev pub pair_with : List (VifRecord × VifTotals) → ℕ → Option (VifRecord × VifTotals)
+pair_with pairs i = find (λ p. p.0.vif == i) pairs

@@ -4,6 +4,7 @@
 mod cursor;
 mod decide;
 mod draft;
+mod ended;
 mod forms;
 mod granting;
 mod head_lines;
