@@ -3,6 +3,7 @@
 ghost use Rattle.std.specs.Prelude.{◌≡◌, ◌≤◌, ◌<◌, ◌+◌, ◌++◌, ◌∷◌, [], Ok, IfOk, length};
 ghost use Rattle.std.specs.List.{AllByRecursion};
 ghost use Rattle.mr_base.specs.Heads.{two_at, four_at};
+ghost use Rattle.mr_model.specs.Ending.{ending};
 ghost use Rattle.mr_model.specs.Verdict.{verdict_in};
 ghost use Rattle.mr_replay.specs.Answers.{Gives};
 ghost use Rattle.mr_replay.specs.Built.{AllBuilt};
@@ -17,6 +18,7 @@ ghost use Rattle.mr_model.specs.declared.verdict.Verdict.TheVariants as verdict;
 
 use crate::granting::{add_mfc, add_vif, init};
 use crate::decide::decide;
+use crate::ended::{Run, ended};
 use crate::machine::Machine;
 use crate::scenario::{Given, Item, Phase, Scenario, Script, ScriptLine};
 use crate::stop::Stop;
@@ -283,15 +285,18 @@ fn machine_of<'a>(alloc: Global, limits: &'a Limits, phases: &[Phase]) -> Result
     play_phases(machine, phases)
 }
 
-/// The history of a scenario's run, or the line of its first call or packet that is not built.
-pub fn play(alloc: Global, scenario: &Scenario) -> Result<Vec<Entry>, Stop>
+/// A scenario's run, or the line of its first call or packet that is not built.
+pub fn play(alloc: Global, scenario: &Scenario) -> Result<Run, Stop>
     requires fits { Fits scenario.now }
     requires numbered { AllNumbered scenario.now.phases }
-    ensures history { Gives (λ v. v.items) result (played scenario.now) }
-    ensures built { IfOk result (λ v. AllBuilt v.items) }
+    ensures history { Gives (λ r. r.entries.items) result (played scenario.now) }
+    ensures built { IfOk result (λ r. AllBuilt r.entries.items) }
+    ensures routes { IfOk result (λ r. r.routes.items ≡ (ending scenario.now.limits r.entries.items).routes) }
+    ensures vifs { IfOk result (λ r. r.vifs.items ≡ (ending scenario.now.limits r.entries.items).vifs) }
 {
     let limits = limits_of(scenario);
     let phases = phases_of(scenario);
     let machine = machine_of(alloc, limits, phases)?;
-    Ok(machine.entries)
+    let run = ended(alloc, machine)?;
+    Ok(run)
 }
