@@ -1,5 +1,5 @@
 -- How many entries a scenario makes at most, and how long an accepted head is.
-use Rattle.std.proofs.Common.{◌≡◌, ◌≤◌, ◌<◌, ℕ, ◌+◌, Bool, true, false, Option, Some, None, List, [], ◌∷◌, length, refl, sym, ap, ◌∙◌, arith}
+use Rattle.std.proofs.Common.{◌≡◌, ◌≤◌, ℕ, ◌+◌, Bool, true, false, Option, Some, None, List, [], ◌∷◌, length, refl, arith}
 use Rattle.std.specs.Prelude.{sum_by, nat_lt, if◌then◌else◌}
 use Rattle.std.proofs.lemmas.List.Sums.{sum_by-cons}
 use Rattle.mr_base.specs.Heads.{cause_of, cause_in}
@@ -8,7 +8,7 @@ use Rattle.mr_base.specs.declared.head_error.HeadError.TheVariants.{Short}
 use Rattle.mr_replay.specs.declared.scenario.Phase.{Phase}
 use Rattle.mr_replay.specs.declared.scenario.Scenario.{Scenario}
 use Rattle.mr_replay.specs.Fits.{Fits}
-use Rattle.mr_replay.specs.Machines.{cost, costs}
+use Rattle.mr_replay.specs.Machines.{costs}
 
 abbrev scripts : List Phase → ℕ
 scripts ps = sum_by (λ (p : Phase). length p.script) ps

@@ -1,5 +1,5 @@
 -- What a machine ends with is the ending of its history.
-use Rattle.std.proofs.Common.{◌≡◌, ℕ, ◌==◌, Bool, true, false, Option, Some, None, List, [], ◌∷◌, ◌++◌, length, map, find, flat_map, reverse, refl, sym, ap, ◌∙◌}
+use Rattle.std.proofs.Common.{◌≡◌, ℕ, ◌==◌, Bool, true, false, Option, Some, None, List, [], ◌∷◌, ◌++◌, length, map, flat_map, reverse, refl, sym, ap, ◌∙◌}
 use Rattle.std.specs.Prelude.{option_to_list, option_map, if◌then◌else◌}
 use Rattle.std.proofs.lemmas.List.{map-append, length-map, reverse-append}
 use Rattle.mr_base.specs.declared.numbers.DaemonNo.{DaemonNo}

@@ -1,5 +1,5 @@
 -- What one more entry does to what a machine keeps.
-use Rattle.std.proofs.Common.{◌≡◌, ◌≤◌, ◌<◌, ℕ, zero, suc, ◌+◌, Bool, true, false, Option, Some, None, Result, Ok, Err, List, [], ◌∷◌, ◌++◌, length, refl, sym, ap, ◌∙◌, arith, append-nil, length-append, subst}
+use Rattle.std.proofs.Common.{◌≡◌, ◌<◌, ℕ, zero, suc, ◌+◌, Bool, true, false, Option, Some, None, Result, Ok, Err, List, [], ◌∷◌, ◌++◌, length, refl, sym, ap, ◌∙◌, arith, append-nil, length-append}
 use Rattle.std.specs.Prelude.{is_some, IfNone, not, ◌==◌, ◌||◌, if◌then◌else◌}
 use Rattle.std.specs.List.{list_any}
 use Rattle.mr_base.specs.declared.errno.Errno.{Errno}
@@ -7,7 +7,7 @@ use Rattle.mr_base.specs.declared.numbers.DaemonNo.{DaemonNo}
 use Rattle.mr_base.specs.declared.route.Route.{Route}
 use Rattle.mr_base.specs.declared.vif_record.VifRecord.{VifRecord}
 use Rattle.mr_model.specs.declared.entry.Entry.{Entry}
-use Rattle.mr_model.specs.declared.entry.Entry.TheVariants.{Call, Slow, EndPhase}
+use Rattle.mr_model.specs.declared.entry.Entry.TheVariants.{Call, EndPhase}
 use Rattle.mr_model.specs.declared.limits.Limits.{Limits}
 use Rattle.mr_model.specs.declared.reply.Reply.TheVariants.{Good}
 use Rattle.mr_model.specs.declared.reply.RouteTotals.{RouteTotals}
@@ -15,15 +15,15 @@ use Rattle.mr_model.specs.declared.reply.VifTotals.{VifTotals}
 use Rattle.mr_model.specs.declared.request.MfcCtl.{MfcCtl}
 use Rattle.mr_model.specs.declared.request.VifCtl.{VifCtl}
 use Rattle.mr_model.specs.declared.request.Request.TheVariants.{Init, AddVif, AddMfc}
-use Rattle.mr_model.specs.Answer.{is_admin, answer, release}
+use Rattle.mr_model.specs.Answer.{is_admin, release}
 use Rattle.mr_model.specs.Counts.{Met, met_in, met}
 use Rattle.mr_model.specs.RouteList.{is_named, new_route, changed_route, change_first, add_route_error}
-use Rattle.mr_model.specs.State.{State, state, step, is_owner, with_route}
+use Rattle.mr_model.specs.State.{State, step, is_owner, with_route}
 use Rattle.mr_model.specs.VifList.{new_vif, add_vif_error}
 use Rattle.mr_model.proofs.Pushing.{state_push}
 use Rattle.mr_model.proofs.PushingLists.{met_push}
-use Rattle.mr_replay.specs.Built.{IsBuilt, AllBuilt}
-use Rattle.mr_replay.specs.Machines.{tables, Holds, Keeps, no_route_totals, no_vif_totals, routes_set, totals_set}
+use Rattle.mr_replay.specs.Built.{IsBuilt}
+use Rattle.mr_replay.specs.Machines.{tables, Holds, Keeps, no_vif_totals, routes_set, totals_set}
 use Rattle.mr_replay.specs.Played.{play_script}
 use Rattle.mr_replay.specs.declared.scenario.Script.TheVariants.{Ask}
 use Rattle.mr_replay.proofs.Each.{all_push}
@@ -152,17 +152,19 @@ pub vif_goes : (limits : Limits) (h : List Entry) (line : ℕ) (d : DaemonNo) (c
     → ((s : State) → s.owner ≡ o → (is_owner s d || is_admin limits d) ≡ true) → ((s : State) → s.owner ≡ o → is_owner s d ≡ owns)
     → Goes limits h (play_script limits h line d (Ask (AddVif c))) (h ++ Call d (AddVif c) Good [] ∷ []) o (vs ++ new_vif limits.devices c (not owns) (length h + 1) ∷ []) (vt ++ no_vif_totals ∷ []) rs rt
 vif_goes limits h line d c owns err o vs vt rs rt k flags is none small may own =
-    let good : err ≡ None = none_of err none in
-    (vif_runs limits h line d c o vs vt rs rt k may (sym is ∙ good),
-    vif_keeps limits h d c (not owns) o vs vt rs rt k flags (rw good at small) (λ s e. ap not (own s e)))
+    let good : err ≡ None = none_of err none in (
+      vif_runs limits h line d c o vs vt rs rt k may (sym is ∙ good),
+      vif_keeps limits h d c (not owns) o vs vt rs rt k flags (rw good at small) (λ s e. ap not (own s e)),
+    )
 
 pub route_goes : (limits : Limits) (h : List Entry) (line : ℕ) (d : DaemonNo) (c : MfcCtl) (owns : Bool) (err : Option Errno) (o : Option DaemonNo) (vs : List VifRecord) (vt : List VifTotals) (rs : List Route) (rt : List RouteTotals)
     → Keeps limits h o vs vt rs rt → (c.src.0 == 0) ≡ false → err ≡ add_route_error limits.entries rs c None → is_some err ≡ false
     → ((s : State) → s.owner ≡ o → (is_owner s d || is_admin limits d) ≡ true) → ((s : State) → s.owner ≡ o → is_owner s d ≡ owns)
     → Goes limits h (play_script limits h line d (Ask (AddMfc c))) (h ++ Call d (AddMfc c) Good [] ∷ []) o vs vt (routes_set vs c (not owns) (length h + 1) rs) (totals_set c rs rt)
-route_goes limits h line d c owns err o vs vt rs rt k exact is none may own =
-    (route_runs limits h line d c o vs vt rs rt exact k may (sym is ∙ none_of err none),
-    route_keeps limits h d c (not owns) o vs vt rs rt k (λ s e. ap not (own s e)))
+route_goes limits h line d c owns err o vs vt rs rt k exact is none may own = (
+  route_runs limits h line d c o vs vt rs rt exact k may (sym is ∙ none_of err none),
+  route_keeps limits h d c (not owns) o vs vt rs rt k (λ s e. ap not (own s e)),
+)
 
 pub equal_not : (a : ℕ) → (a ≡ 0 → ⊥) → (a == 0) ≡ false
 equal_not zero f = absurd (f refl)

@@ -1,6 +1,6 @@
 -- What a packet comes to: one plain forward more, or a line that is not built.
-use Rattle.std.proofs.Common.{◌≡◌, ◌≤◌, ◌<◌, ℕ, ◌+◌, Bool, true, false, Option, Some, None, Result, Ok, Err, List, [], ◌∷◌, ◌++◌, length, find, refl, sym, ap, ◌∙◌, arith}
-use Rattle.std.specs.Prelude.{IfSome, nat_le, ◌&&◌, ◌||◌, if◌then◌else◌}
+use Rattle.std.proofs.Common.{◌≡◌, ◌≤◌, ℕ, Bool, true, false, Option, Some, None, Ok, Err, List, [], ◌∷◌, ◌++◌, length, find, refl, ap, arith}
+use Rattle.std.specs.Prelude.{IfSome, nat_le, ◌&&◌, if◌then◌else◌}
 use Rattle.std.specs.List.{AllByRecursion}
 use Rattle.mr_base.specs.declared.numbers.Addr.{Addr}
 use Rattle.mr_base.specs.declared.numbers.DaemonNo.{DaemonNo}
@@ -12,7 +12,6 @@ use Rattle.mr_model.specs.declared.entry.Entry.{Entry}
 use Rattle.mr_model.specs.declared.entry.Entry.TheVariants.{Slow}
 use Rattle.mr_model.specs.declared.flow.Flow.{Flow}
 use Rattle.mr_model.specs.declared.limits.Limits.{Limits}
-use Rattle.mr_model.specs.declared.outcome.Outcome.{Outcome}
 use Rattle.mr_model.specs.declared.outcome.Outcome.TheVariants as outcome
 use Rattle.mr_model.specs.declared.reply.RouteTotals.{RouteTotals}
 use Rattle.mr_model.specs.declared.reply.VifTotals.{VifTotals}
@@ -26,8 +25,8 @@ use Rattle.mr_model.specs.RouteList.{is_entry}
 use Rattle.mr_model.specs.State.{State}
 use Rattle.mr_model.specs.Verdict.{judge_in, judge_or_miss, missed, verdict_in, is_plain, passes, has_register, outs_of, input_of}
 use Rattle.mr_model.specs.VifList.{vif_on}
-use Rattle.mr_replay.specs.Machines.{tables, Keeps, IsRouteOf, IsVifOf, routes_with, vifs_with}
-use Rattle.mr_replay.specs.Played.{with_outcome, play_given}
+use Rattle.mr_replay.specs.Machines.{tables, Keeps, routes_with, vifs_with}
+use Rattle.mr_replay.specs.Played.{with_outcome}
 use Rattle.mr_replay.proofs.Binds.{some_if}
 use Rattle.mr_replay.proofs.Keeping.{keeps_push}
 use Rattle.mr_replay.proofs.Holding.{holds_packet}

@@ -1,5 +1,5 @@
 -- What the machine keeps, and what a run of it gives.
-use Rattle.std.specs.Prelude.{◌≡◌, ◌≤◌, ◌<◌, ◌+◌, ◌*◌, ℕ, false, Bool, true, Option, Some, None, Result, Ok, Err, List, [], ◌∷◌, length, map, find, ◌==◌, if◌then◌else◌}
+use Rattle.std.specs.Prelude.{◌≡◌, ◌≤◌, ◌<◌, ◌+◌, ◌*◌, ℕ, false, Bool, true, Option, None, Result, Ok, Err, List, [], ◌∷◌, length, map, find, ◌==◌, if◌then◌else◌}
 use Rattle.std.specs.List.{AllByRecursion, list_any}
 use Rattle.mr_base.specs.declared.numbers.DaemonNo.{DaemonNo}
 use Rattle.mr_base.specs.declared.numbers.Mask.{Mask}

@@ -22,7 +22,11 @@ pub struct Run {
 }
 
 /// The routes, each with its totals.
-fn route_pairs(alloc: Global, routes: &[Route], totals: &[RouteTotals]) -> Result<Vec<(Route, RouteTotals)>, Stop>
+fn route_pairs(
+    alloc: Global,
+    routes: &[Route],
+    totals: &[RouteTotals],
+) -> Result<Vec<(Route, RouteTotals)>, Stop>
     requires { length totals.now ≡ length routes.now }
     ensures pairs { IfOk result (λ v. v.items ≡ route_pairs routes.now totals.now) }
     ensures memory { IfErr result (λ e. e ≡ stop.Memory) }
@@ -35,7 +39,11 @@ fn route_pairs(alloc: Global, routes: &[Route], totals: &[RouteTotals]) -> Resul
 }
 
 /// The routes, oldest first, each with its totals.
-fn oldest_first(alloc: Global, routes: &[Route], totals: &[RouteTotals]) -> Result<Vec<(Route, RouteTotals)>, Stop>
+fn oldest_first(
+    alloc: Global,
+    routes: &[Route],
+    totals: &[RouteTotals],
+) -> Result<Vec<(Route, RouteTotals)>, Stop>
     requires { length totals.now ≡ length routes.now }
     ensures pairs { IfOk result (λ v. v.items ≡ reverse (route_pairs routes.now totals.now)) }
     ensures memory { IfErr result (λ e. e ≡ stop.Memory) }
@@ -46,7 +54,11 @@ fn oldest_first(alloc: Global, routes: &[Route], totals: &[RouteTotals]) -> Resu
 }
 
 /// The vifs, each with its totals.
-fn vif_pairs(alloc: Global, vifs: &[VifRecord], totals: &[VifTotals]) -> Result<Vec<(VifRecord, VifTotals)>, Stop>
+fn vif_pairs(
+    alloc: Global,
+    vifs: &[VifRecord],
+    totals: &[VifTotals],
+) -> Result<Vec<(VifRecord, VifTotals)>, Stop>
     requires { length totals.now ≡ length vifs.now }
     ensures pairs { IfOk result (λ v. v.items ≡ vif_pairs vifs.now totals.now) }
     ensures memory { IfErr result (λ e. e ≡ stop.Memory) }
@@ -73,7 +85,11 @@ fn pair_with(pairs: &[(VifRecord, VifTotals)], i: u8) -> Option<(VifRecord, VifT
 }
 
 /// The vifs with these indexes, each with its totals.
-fn by_index(alloc: Global, indexes: &[u8], pairs: &[(VifRecord, VifTotals)]) -> Result<Vec<(VifRecord, VifTotals)>, Stop>
+fn by_index(
+    alloc: Global,
+    indexes: &[u8],
+    pairs: &[(VifRecord, VifTotals)],
+) -> Result<Vec<(VifRecord, VifTotals)>, Stop>
     ensures pairs { IfOk result (λ v. v.items ≡ flat_map (λ i. option_to_list (pair_with pairs.now i)) indexes.now) }
     ensures memory { IfErr result (λ e. e ≡ stop.Memory) }
 {
@@ -100,8 +116,16 @@ pub fn ended(alloc: Global, machine: Machine<'_>) -> Result<Run, Stop>
     ensures vifs { IfOk result (λ r. r.vifs.items ≡ (ending machine.entry.limits.now machine.entry.entries.items).vifs) }
     ensures memory { IfErr result (λ e. e ≡ stop.Memory) }
 {
-    let routes = oldest_first(alloc, machine.routes.as_slice(), machine.route_totals.as_slice())?;
-    let pairs = vif_pairs(alloc, machine.vifs.as_slice(), machine.vif_totals.as_slice())?;
+    let routes = oldest_first(
+        alloc,
+        machine.routes.as_slice(),
+        machine.route_totals.as_slice(),
+    )?;
+    let pairs = vif_pairs(
+        alloc,
+        machine.vifs.as_slice(),
+        machine.vif_totals.as_slice(),
+    )?;
     let vifs = by_index(alloc, &INDEXES, pairs.as_slice())?;
     Ok(Run {
         entries: machine.entries,

@@ -98,7 +98,12 @@ fn vif_made(limits: &Limits, c: &VifCtl, fixed: bool, number: u32) -> VifRecord
 }
 
 /// MRT_ADD_VIF of a daemon, of a device by its number.
-pub fn add_vif(machine: Machine<'_>, line: u32, daemon: DaemonNo, c: VifCtl) -> Result<Machine<'_>, Stop>
+pub fn add_vif(
+    machine: Machine<'_>,
+    line: u32,
+    daemon: DaemonNo,
+    c: VifCtl,
+) -> Result<Machine<'_>, Stop>
     requires follows { Follows machine }
     requires room { HasRoom machine 1 }
     requires numbered { c.flags ≡ 8 }
@@ -127,7 +132,12 @@ pub fn add_vif(machine: Machine<'_>, line: u32, daemon: DaemonNo, c: VifCtl) -> 
 }
 
 /// An entry that is not there yet stands in front of all, with nothing counted.
-fn put_route<'a>(machine: Machine<'a>, number: u32, fixed: bool, c: &MfcCtl) -> Result<Machine<'a>, Stop>
+fn put_route<'a>(
+    machine: Machine<'a>,
+    number: u32,
+    fixed: bool,
+    c: &MfcCtl,
+) -> Result<Machine<'a>, Stop>
     requires { c.now.parent < 32 }
     ensures same { IfOk result (λ m. IsSame machine.entry m) }
     ensures routes { IfOk result (λ m. m.routes.items ≡ new_route machine.entry.vifs.items c.now fixed number ∷ machine.entry.routes.items) }
@@ -170,7 +180,12 @@ fn change_route<'a>(machine: Machine<'a>, fixed: bool, c: &MfcCtl) -> Machine<'a
 }
 
 /// The entry that a call names is changed or put in front.
-fn set_route<'a>(machine: Machine<'a>, number: u32, fixed: bool, c: &MfcCtl) -> Result<Machine<'a>, Stop>
+fn set_route<'a>(
+    machine: Machine<'a>,
+    number: u32,
+    fixed: bool,
+    c: &MfcCtl,
+) -> Result<Machine<'a>, Stop>
     requires { c.now.parent < 32 }
     ensures same { IfOk result (λ m. IsSame machine.entry m) }
     ensures routes { IfOk result (λ m. m.routes.items ≡ routes_set machine.entry.vifs.items c.now fixed number machine.entry.routes.items) }
@@ -184,7 +199,12 @@ fn set_route<'a>(machine: Machine<'a>, number: u32, fixed: bool, c: &MfcCtl) -> 
 }
 
 /// MRT_ADD_MFC of a daemon, of an entry with an origin.
-pub fn add_mfc(machine: Machine<'_>, line: u32, daemon: DaemonNo, c: MfcCtl) -> Result<Machine<'_>, Stop>
+pub fn add_mfc(
+    machine: Machine<'_>,
+    line: u32,
+    daemon: DaemonNo,
+    c: MfcCtl,
+) -> Result<Machine<'_>, Stop>
     requires follows { Follows machine }
     requires room { HasRoom machine 1 }
     ensures runs { RunsOn machine.entry result (play_script machine.entry.limits.now machine.entry.entries.items line daemon (Ask (AddMfc c))) }

@@ -16,9 +16,9 @@ ghost use Rattle.mr_model.specs.declared.outcome.Outcome.TheVariants as outcome;
 ghost use Rattle.mr_replay.specs.declared.scenario.Given.TheVariants.{Bytes};
 ghost use Rattle.mr_model.specs.declared.verdict.Verdict.TheVariants as verdict;
 
-use crate::granting::{add_mfc, add_vif, init};
 use crate::decide::decide;
 use crate::ended::{Run, ended};
+use crate::granting::{add_mfc, add_vif, init};
 use crate::machine::Machine;
 use crate::scenario::{Given, Item, Phase, Scenario, Script, ScriptLine};
 use crate::stop::Stop;
@@ -89,7 +89,13 @@ fn flow_of(dev: u32, bytes: &[u8]) -> Flow
 }
 
 /// One packet more met this entry, and came in and went out on these vifs.
-fn count_packet<'a>(machine: Machine<'a>, entry: u32, input: Option<u8>, outs: Mask, size: u16) -> Machine<'a>
+fn count_packet<'a>(
+    machine: Machine<'a>,
+    entry: u32,
+    input: Option<u8>,
+    outs: Mask,
+    size: u16,
+) -> Machine<'a>
     requires vifs { length machine.vif_totals.items ≡ length machine.vifs.items }
     requires routes { length machine.route_totals.items ≡ length machine.routes.items }
     requires small { AllByRecursion (λ v. v.vif < 32) machine.vifs.items }
@@ -109,7 +115,13 @@ fn count_packet<'a>(machine: Machine<'a>, entry: u32, input: Option<u8>, outs: M
         mut route_totals,
     } = machine;
     count_route(route_totals.as_mut_slice(), routes.as_slice(), entry, size);
-    count_vifs(vif_totals.as_mut_slice(), vifs.as_slice(), input, outs, size);
+    count_vifs(
+        vif_totals.as_mut_slice(),
+        vifs.as_slice(),
+        input,
+        outs,
+        size,
+    );
     Machine {
         limits,
         entries,
@@ -122,7 +134,16 @@ fn count_packet<'a>(machine: Machine<'a>, entry: u32, input: Option<u8>, outs: M
 }
 
 /// A packet is forwarded plainly by this entry.
-fn forward<'a>(machine: Machine<'a>, lane: LaneNo, index: u32, flow: Flow, size: u16, entry: u32, input: Option<u8>, outs: Mask) -> Result<Machine<'a>, Stop>
+fn forward<'a>(
+    machine: Machine<'a>,
+    lane: LaneNo,
+    index: u32,
+    flow: Flow,
+    size: u16,
+    entry: u32,
+    input: Option<u8>,
+    outs: Mask,
+) -> Result<Machine<'a>, Stop>
     requires follows { Follows machine }
     requires size { size ≡ flow.length }
     requires room { HasRoom machine 1 }
@@ -151,7 +172,14 @@ fn bytes_of(item: &Item) -> &[u8]
 }
 
 /// One packet of the lane, with an accepted head.
-fn play_bytes<'a>(machine: Machine<'a>, n: u32, line: u32, lane: LaneNo, dev: u32, bytes: &[u8]) -> Result<Machine<'a>, Stop>
+fn play_bytes<'a>(
+    machine: Machine<'a>,
+    n: u32,
+    line: u32,
+    lane: LaneNo,
+    dev: u32,
+    bytes: &[u8],
+) -> Result<Machine<'a>, Stop>
     requires follows { Follows machine }
     requires room { HasRoom machine 1 }
     requires accepted { IsAccepted (Bytes bytes.now) }
@@ -159,9 +187,25 @@ fn play_bytes<'a>(machine: Machine<'a>, n: u32, line: u32, lane: LaneNo, dev: u3
     ensures grows { IfOk result (λ m. length m.entries.items ≤ length machine.entry.entries.items + 1) }
 {
     let flow = flow_of(dev, bytes);
-    let verdict = decide(machine.vifs.as_slice(), machine.routes.as_slice(), flow.dev, flow.src, flow.dst, flow.ttl);
+    let verdict = decide(
+        machine.vifs.as_slice(),
+        machine.routes.as_slice(),
+        flow.dev,
+        flow.src,
+        flow.dst,
+        flow.ttl,
+    );
     match verdict {
-        Verdict::Forward { entry, input, outs } => forward(machine, lane, n, flow, flow.length, entry, input, outs),
+        Verdict::Forward { entry, input, outs } => forward(
+            machine,
+            lane,
+            n,
+            flow,
+            flow.length,
+            entry,
+            input,
+            outs,
+        ),
         _ => Err(Stop::NotBuilt(line)),
     }
 }

@@ -94,7 +94,13 @@ fn vif_with(input: Option<u8>, outs: Mask, size: u16, vif: u8, t: VifTotals) -> 
 }
 
 /// One packet more came in and went out on these vifs.
-pub fn count_vifs(totals: &mut [VifTotals], vifs: &[VifRecord], input: Option<u8>, outs: Mask, size: u16)
+pub fn count_vifs(
+    totals: &mut [VifTotals],
+    vifs: &[VifRecord],
+    input: Option<u8>,
+    outs: Mask,
+    size: u16,
+)
     requires each { length totals.now ≡ length vifs.now }
     requires small { AllByRecursion (λ v. v.vif < 32) vifs.now }
     requires few { AllByRecursion (IsVifOf 4194304) totals.now }
