@@ -1,5 +1,5 @@
-use mr_base::DaemonNo;
-use mr_model::{Entry, Limits};
+use mr_base::{DaemonNo, Route, VifRecord};
+use mr_model::{Entry, Limits, RouteTotals, VifTotals};
 
 /// The machine that runs a scenario on one thread.
 #[derive(Drop)]
@@ -9,4 +9,12 @@ pub struct Machine<'a> {
     pub entries: Vec<Entry>,
     /// The daemon that owns it.
     pub owner: Option<DaemonNo>,
+    /// In the order in which they were added.
+    pub vifs: Vec<VifRecord>,
+    /// What each vif counted.
+    pub vif_totals: Vec<VifTotals>,
+    /// Newest first.
+    pub routes: Vec<Route>,
+    /// What each route counted.
+    pub route_totals: Vec<RouteTotals>,
 }

@@ -1,18 +1,20 @@
 //! The top call.
 
-ghost use Rattle.std.specs.Prelude.{◌≡◌, ◌⊎◌, ◌↔◌, ◌≤◌, length, map, string_bytes, MatchOption, IfOk, IfSome, None, Some, true};
+ghost use Rattle.std.specs.Prelude.{[], ◌≡◌, ◌⊎◌, ◌↔◌, ◌≤◌, length, map, string_bytes, MatchOption, IfOk, IfSome, None, Some, true};
 ghost use Rattle.mr_base.specs.Outside.{Rose, AllStay, Takes, TakesPrefix};
+ghost use Rattle.mr_replay.specs.Built.{AllBuilt};
+ghost use Rattle.mr_replay.specs.Text.{text};
 ghost use Rattle.mr_replay.specs.Endings.{is_file_word, file_asked, RunsTo, Replays, Stops, StopsAt, failed_read, is_silent, IfNotBuilt, IfStoreFault};
 ghost use Rattle.mr_replay.specs.Played.{outcome_of};
 ghost use Rattle.mr_replay.specs.declared.status.Status.TheVariants as status;
 
+use crate::ended::Run;
 use crate::playing::play;
-use crate::reading::read_scenario;
 use crate::status::Status;
-use crate::stop::Stop;
+use mr_scenario::{Named, Scenario, Stop};
 use crate::writing::write_history;
 use mr_base::{Clock, Door, FileName, Gate, ReadError, Sink, Store};
-use std::alloc::Global;
+use std::alloc::{AllocError, Global};
 use std::sync::Wait;
 use std::thread::Threads;
 
@@ -42,20 +44,37 @@ fn file_asked(words: &[String]) -> Option<&str>
     }
 }
 
+/// The devices of a scenario.
+fn devices_of(scenario: &Scenario) -> &[Named]
+    ensures { result.now ≡ scenario.now.devices }
+{
+    scenario.devices.0.as_slice()
+}
+
+/// The text of a run.
+fn text_of(alloc: Global, scenario: &Scenario, run: &Run) -> Result<String, AllocError>
+    requires { AllBuilt run.now.entries.items }
+    ensures { IfOk result (λ s. string_bytes s ≡ text [] run.now.entries.items scenario.now.devices (record { routes = run.now.routes.items; vifs = run.now.vifs.items; fates = [] })) }
+{
+    let devices = devices_of(scenario);
+    write_history(
+        alloc,
+        run.entries.as_slice(),
+        devices,
+        run.routes.as_slice(),
+        run.vifs.as_slice(),
+    )
+}
+
 /// The text of the history that bytes come to.
 fn history_of(alloc: Global, bytes: &[u8]) -> Result<String, Stop>
     ensures ran { IfOk result (λ s. RunsTo bytes.now (string_bytes s)) }
     ensures stopped { StopsAt result (outcome_of bytes.now) }
 {
-    let scenario = read_scenario(alloc, bytes)?;
+    let scenario = mr_scenario::read(alloc, bytes)?;
     let played = play(alloc, &scenario)?;
-    Ok(write_history(
-        alloc,
-        played.entries.as_slice(),
-        scenario.devices.0.as_slice(),
-        played.routes.as_slice(),
-        played.vifs.as_slice(),
-    )?)
+    let text = text_of(alloc, &scenario, &played)?;
+    Ok(text)
 }
 
 /// Hands the history's text to the sink.

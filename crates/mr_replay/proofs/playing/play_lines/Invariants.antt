@@ -1,4 +1,5 @@
-use Rattle.std.proofs.Common.{◌≡◌, drop}
+use Rattle.mr_scenario.specs.Fits.{AreNumbered}
+use Rattle.std.proofs.Common.{◌≡◌, ◌≤◌, ◌+◌, drop, length}
 use Rattle.mr_replay.specs.Machines.{Follows}
 use Rattle.mr_replay.specs.Played.{play_lines}
 use Rattle.mr_replay.proofs.playing.play_lines.Given as goal
@@ -8,5 +9,7 @@ abbrev pub invariant-loop-line : goal.invariant-loop-line
 invariant-loop-line l = record {
   follows : Follows l.machine;
   limits : l.machine.limits ≡ l.fn.machine.limits;
+  numbered : AreNumbered (drop l.line-index l.lines);
+  grows : length l.machine.entries.items ≤ length l.fn.machine.entries.items + l.line-index;
   runs : play_lines l.machine.limits.now l.machine.entries.items (drop l.line-index l.lines) ≡ play_lines l.fn.machine.limits.now l.fn.machine.entries.items l.lines;
 }
