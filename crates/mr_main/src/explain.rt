@@ -4,7 +4,7 @@ use std::{fs, io, str};
 
 /// What is built of scenarios.
 const BUILT: &str =
-    "'scenario 1', then 'device NAME ADDRESS' and one 'daemon admin', then phases: 'phase' and 'daemon 1 init', which is good once";
+    "'scenario 1'; 'device NAME ADDRESS' and one 'daemon admin'; 'phase' with 'daemon 1 init', 'daemon 1 addvif I 8 @N', 'daemon 1 addmfc S G P V:T ..', each to be answered ok, and 'lane 1 pkt DEV HEX', each to be plainly forwarded";
 
 /// The text of a line of a file, counted from 1; a line that is no text is shown as '..'.
 fn line_text(bytes: &[u8], line: u32) -> &str {
@@ -19,7 +19,7 @@ fn line_text(bytes: &[u8], line: u32) -> &str {
 fn explain_line<R: Files + AllocGlobal + Eprint>(rt: &R, file: &str, line: u32) -> io::Result<()> {
     let bytes = fs::read(rt, file)?;
     let found = line_text(bytes.as_slice(), line);
-    eprintln!(rt; "{file}:{line}: not built yet: '{found}' (built are {BUILT})")
+    eprintln!(rt; "{file}:{line}: this is not built yet: '{found}' (built are {BUILT})")
 }
 
 /// Tells a person what a status that is not Good means, as one line on standard error.

@@ -9,7 +9,6 @@ use Rattle.mr_model.specs.declared.entry.Entry.{Entry}
 use Rattle.mr_model.specs.declared.limits.Limits.{Limits}
 use Rattle.mr_model.specs.declared.reply.RouteTotals.{RouteTotals}
 use Rattle.mr_model.specs.declared.reply.VifTotals.{VifTotals}
-use Rattle.mr_model.specs.declared.request.Request.TheVariants.{AddVif}
 use Rattle.mr_model.specs.declared.request.MfcCtl.{MfcCtl}
 use Rattle.mr_model.specs.RouteList.{is_named, new_route, changed_route, change_first}
 use Rattle.mr_model.specs.Counts.{Met, met, route_sums, vif_sums}
@@ -17,9 +16,6 @@ use Rattle.mr_model.specs.State.{State, state}
 use Rattle.mr_model.specs.Verdict.{is_in, is_vif}
 use Rattle.mr_replay.specs.declared.machine.Machine.{Machine}
 use Rattle.mr_scenario.specs.declared.scenario.Phase.{Phase}
-use Rattle.mr_scenario.specs.declared.scenario.Script.{Script}
-use Rattle.mr_scenario.specs.declared.scenario.Script.TheVariants.{Ask}
-use Rattle.mr_scenario.specs.declared.scenario.ScriptLine.{ScriptLine}
 use Rattle.mr_scenario.specs.declared.stop.Stop.{Stop}
 use Rattle.mr_scenario.specs.declared.stop.Stop.TheVariants as stop
 use Rattle.mr_replay.specs.Built.{AllBuilt}

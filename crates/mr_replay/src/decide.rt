@@ -80,7 +80,7 @@ pub fn exact_in(routes: &[Route], src: Addr, dst: Addr) -> Option<Route>
     ensures { result ≡ find (is_entry src dst) routes.now }
 {
     let mut rest = routes;
-    'routes: while let [r, after @ ..] = rest {
+    'exact: while let [r, after @ ..] = rest {
         if is_entry(r, src, dst) {
             return Some(*r);
         }

@@ -6,9 +6,9 @@ ghost use Rattle.mr_replay.specs.Machines.{Follows, route_pairs, vif_pairs, pair
 ghost use Rattle.mr_scenario.specs.declared.stop.Stop.TheVariants as stop;
 
 use crate::machine::Machine;
-use mr_scenario::Stop;
 use mr_base::{Route, VifRecord};
 use mr_model::{Entry, RouteTotals, VifTotals};
+use mr_scenario::Stop;
 use std::alloc::Global;
 
 /// The history of a run, and what it ends with.

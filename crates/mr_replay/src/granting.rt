@@ -13,10 +13,10 @@ ghost use Rattle.mr_scenario.specs.declared.stop.Stop.TheVariants as stop;
 
 use crate::machine::Machine;
 use crate::route_list::{add_route_error, change_first, has_entry, new_route};
-use mr_scenario::Stop;
 use crate::vif_list::{add_vif_error, new_vif};
 use mr_base::{DaemonNo, Errno, Few, VifRecord};
 use mr_model::{Entry, Limits, MfcCtl, Reply, Request, RouteTotals, VifCtl, VifTotals};
+use mr_scenario::Stop;
 
 /// Whether a daemon is the owner.
 fn is_owner(owner: Option<DaemonNo>, daemon: DaemonNo) -> bool

@@ -20,11 +20,10 @@ use crate::decide::decide;
 use crate::ended::{Run, ended};
 use crate::granting::{add_mfc, add_vif, init};
 use crate::machine::Machine;
-use mr_scenario::{Given, Item, Phase, Scenario, Script, ScriptLine};
-use mr_scenario::Stop;
 use crate::totals::{count_route, count_vifs};
 use mr_base::{Addr, LaneNo, Mask};
 use mr_model::{Entry, Flow, Limits, Outcome, Request, Verdict};
+use mr_scenario::{Given, Item, Phase, Scenario, Script, ScriptLine, Stop};
 use std::alloc::Global;
 
 /// One line of a script.

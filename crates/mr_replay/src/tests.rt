@@ -38,12 +38,15 @@ fn replayed<R: AllocGlobal + Wait + Threads + Sync>(
 }
 
 /// Two devices, the daemon, both vifs and one entry: lines 1 to 9, and the history's first five lines.
-const SETUP: &str = "scenario 1\ndevice eth0 10.0.0.1\ndevice eth1 10.0.1.1\ndaemon admin\nphase\ndaemon 1 init\ndaemon 1 addvif 0 8 @1\ndaemon 1 addvif 1 8 @2\ndaemon 1 addmfc 10.0.0.9 239.1.1.1 0 1:1\n";
+const SETUP: &str =
+    "scenario 1\ndevice eth0 10.0.0.1\ndevice eth1 10.0.1.1\ndaemon admin\nphase\ndaemon 1 init\ndaemon 1 addvif 0 8 @1\ndaemon 1 addvif 1 8 @2\ndaemon 1 addmfc 10.0.0.9 239.1.1.1 0 1:1\n";
 
-const CALLS: &str = "history 1\n1 call 1 init = ok\n2 call 1 addvif 0 8 @1 = ok\n3 call 1 addvif 1 8 @2 = ok\n4 call 1 addmfc 10.0.0.9 239.1.1.1 0 1:1 = ok\n";
+const CALLS: &str =
+    "history 1\n1 call 1 init = ok\n2 call 1 addvif 0 8 @1 = ok\n3 call 1 addvif 1 8 @2 = ok\n4 call 1 addmfc 10.0.0.9 239.1.1.1 0 1:1 = ok\n";
 
 /// A packet of 28 bytes from 10.0.0.9 to 239.1.1.1 with TTL 2, and the same with TTL 1.
 const PACKET: &str = "4500001c000100000211bec50a000009ef01010103e803e900080000";
+
 const LAST_HOP: &str = "4500001c000100000111bfc50a000009ef01010103e803e900080000";
 
 /// A run of the setup and further lines.
@@ -193,7 +196,9 @@ fn packets(rt: HostRuntime) -> Result<(), Fail> {
         ),
     ];
     for (packet, want) in cases {
-        let more = format!(in rt.alloc(); "phase\nlane 1 pkt eth0 {packet}\nlane 1 pkt eth0 {packet}00\n")?;
+        let more = format!(in rt.alloc();
+            "phase\nlane 1 pkt eth0 {packet}\nlane 1 pkt eth0 {packet}00\n"
+        )?;
         let (status, written) = after_setup(&rt, more.as_str())?;
         let want = format!(in rt.alloc(); "{CALLS}5 phase\n{want}")?;
         assert_eq!(rt; status.number(), 0, "at {packet}");
@@ -220,16 +225,43 @@ fn calls_and_packets_not_built(rt: HostRuntime) -> Result<(), Fail> {
         ("daemon 1 addmfc 10.0.0.9 239.1.1.1 0 1:256\n", 10),
         ("daemon 1 addmfc 10.0.0.9 239.1.1.1 0 1:01\n", 10),
         ("daemon 1 addmfc 10.0.0.9 239.1.1.1 0 1:1:1\n", 10),
-        ("lane 2 pkt eth0 4500001c000100000211bec50a000009ef01010103e803e900080000\n", 10),
-        ("lane 1 pkt eth9 4500001c000100000211bec50a000009ef01010103e803e900080000\n", 10),
-        ("lane 1 pkt eth0 4500001c000100000311bec50a000009ef01010103e803e900080000\n", 10),
-        ("lane 1 pkt eth0 4500001c000100000211bec50a000009ef01010103e803e90008000\n", 10),
-        ("lane 1 pkt eth0 4500001c000100000211bec50a000009ef01010103e803e9000800\n", 10),
-        ("lane 1 pkt eth0 4500001g000100000211bec50a000009ef01010103e803e900080000\n", 10),
-        ("lane 1 pkt eth0 4500001c000100000211a3c00a0000080a0001090000000000000000\n", 10),
+        (
+            "lane 2 pkt eth0 4500001c000100000211bec50a000009ef01010103e803e900080000\n",
+            10,
+        ),
+        (
+            "lane 1 pkt eth9 4500001c000100000211bec50a000009ef01010103e803e900080000\n",
+            10,
+        ),
+        (
+            "lane 1 pkt eth0 4500001c000100000311bec50a000009ef01010103e803e900080000\n",
+            10,
+        ),
+        (
+            "lane 1 pkt eth0 4500001c000100000211bec50a000009ef01010103e803e90008000\n",
+            10,
+        ),
+        (
+            "lane 1 pkt eth0 4500001c000100000211bec50a000009ef01010103e803e9000800\n",
+            10,
+        ),
+        (
+            "lane 1 pkt eth0 4500001g000100000211bec50a000009ef01010103e803e900080000\n",
+            10,
+        ),
+        (
+            "lane 1 pkt eth0 4500001c000100000211a3c00a0000080a0001090000000000000000\n",
+            10,
+        ),
         // A head of 10.0.0.8, for which no entry is there, and one that came in on the wrong interface.
-        ("phase\nlane 1 pkt eth0 4500001c000100000211bec60a000008ef01010103e803e900080000\n", 11),
-        ("phase\nlane 1 pkt eth1 4500001c000100000211bec50a000009ef01010103e803e900080000\n", 11),
+        (
+            "phase\nlane 1 pkt eth0 4500001c000100000211bec60a000008ef01010103e803e900080000\n",
+            11,
+        ),
+        (
+            "phase\nlane 1 pkt eth1 4500001c000100000211bec50a000009ef01010103e803e900080000\n",
+            11,
+        ),
         // A line that is not built comes before a call or packet that is not.
         ("daemon 1 init\nphase\ndaemon 1 recv\n", 12),
     ];
@@ -244,9 +276,11 @@ fn calls_and_packets_not_built(rt: HostRuntime) -> Result<(), Fail> {
 
 #[test]
 fn admin_without_owner(rt: HostRuntime) -> Result<(), Fail> {
-    let text = "scenario 1\ndevice eth0 10.0.0.1\ndaemon admin\nphase\ndaemon 1 addvif 0 8 @1\ndaemon 1 addmfc 10.0.0.9 239.1.1.1 0\n";
+    let text =
+        "scenario 1\ndevice eth0 10.0.0.1\ndaemon admin\nphase\ndaemon 1 addvif 0 8 @1\ndaemon 1 addmfc 10.0.0.9 239.1.1.1 0\n";
     let (status, written) = replayed(&rt, "replay f", text)?;
-    let want = "history 1\n1 call 1 addvif 0 8 @1 = ok\n2 call 1 addmfc 10.0.0.9 239.1.1.1 0 = ok\n3 phase\nroute 2 10.0.0.9 239.1.1.1 0 0 0 0\nvif 0 eth0 0 0 0 0\nend\n";
+    let want =
+        "history 1\n1 call 1 addvif 0 8 @1 = ok\n2 call 1 addmfc 10.0.0.9 239.1.1.1 0 = ok\n3 phase\nroute 2 10.0.0.9 239.1.1.1 0 0 0 0\nvif 0 eth0 0 0 0 0\nend\n";
     assert_eq!(rt; status.number(), 0);
     assert_eq!(rt; written.as_slice(), want.as_bytes());
     Ok(())

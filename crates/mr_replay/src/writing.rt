@@ -7,13 +7,13 @@ ghost use Rattle.mr_model.specs.declared.request.Request.TheVariants.{Init, AddV
 ghost use Rattle.mr_replay.specs.Built.{IsBuilt, AllBuilt};
 ghost use Rattle.mr_replay.specs.Text.{line, mask, vif_or_none, entry_text, entries_text, route_line, name_at, device_word, vif_line, text};
 
-use mr_scenario::Named;
 use crate::text_words::{
     write_local, write_mask, write_number, write_pair, write_route_words, write_spaced,
     write_vif_or_none,
 };
 use mr_base::{DaemonNo, LaneNo, Mask, Route, VifRecord};
 use mr_model::{Entry, MfcCtl, Outcome, Reply, Request, RouteTotals, VifCtl, VifTotals};
+use mr_scenario::Named;
 use std::alloc::{AllocError, Global};
 
 /// The line of a good Init.

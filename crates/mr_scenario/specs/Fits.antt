@@ -1,5 +1,5 @@
 -- What a scenario that was read keeps: it fits its own limits.
-use Rattle.std.specs.Prelude.{◌≡◌, ◌≤◌, ℕ, None, List, [], ◌∷◌, length, sum_by}
+use Rattle.std.specs.Prelude.{◌≡◌, ◌≤◌, None, List, [], ◌∷◌, length, sum_by}
 use Rattle.std.specs.List.{AllByRecursion}
 use Rattle.mr_base.specs.Heads.{cause_of}
 use Rattle.mr_model.specs.Legal.{IsDaemon}

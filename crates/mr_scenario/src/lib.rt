@@ -11,6 +11,8 @@ mod phase_lines;
 mod reading;
 mod scenario;
 mod stop;
+#[cfg(test)]
+mod tests;
 
 pub use laws::spelled_fits;
 pub use reading::read;

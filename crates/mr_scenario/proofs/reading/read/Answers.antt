@@ -3,7 +3,7 @@ use Rattle.mr_scenario.specs.declared.scenario.Scenario.{Scenario}
 use Rattle.mr_scenario.specs.declared.stop.Stop.{Stop}
 use Rattle.mr_scenario.specs.Answers.{Gives}
 use Rattle.mr_scenario.specs.Fits.{Fits}
-use Rattle.mr_scenario.specs.Spelled.{◌>>=◌, draft_from, empty_draft, spelled, whole}
+use Rattle.mr_scenario.specs.Spelled.{◌>>=◌, draft_from, empty_draft, whole}
 use Rattle.mr_scenario.specs.Words.{lines_of}
 use Rattle.mr_scenario.specs.declared.draft.Draft.{Draft}
 use Rattle.mr_scenario.proofs.FitsDraft.{spelled_keeps}
