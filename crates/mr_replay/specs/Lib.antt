@@ -5,3 +5,4 @@ pub mod Built
 pub mod Machines
 pub mod Laws
 pub mod Endings
+pub mod Statuses

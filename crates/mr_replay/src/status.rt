@@ -1,3 +1,6 @@
+ghost use Rattle.std.specs.Prelude.{◌≡◌};
+ghost use Rattle.mr_replay.specs.Statuses.{number_of};
+
 use mr_base::FileName;
 
 /// How a run ended.
@@ -19,7 +22,9 @@ pub enum Status {
 
 impl Status {
     /// The exit status of the program: 0 Good, 1 Usage, 4 StoreFault, 5 SinkFault, 6 Memory, 12 NotBuilt.
-    pub fn number(&self) -> u8 {
+    pub fn number(&self) -> u8
+        ensures { result ≡ number_of self.now }
+    {
         match self {
             Status::Good => 0,
             Status::Usage => 1,
