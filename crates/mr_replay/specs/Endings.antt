@@ -1,5 +1,5 @@
 -- How a run may end, and what each status says.
-use Rattle.std.specs.Prelude.{◌≡◌, ℕ, ◌&&◌, Bool, true, false, not, nat_lt, nat_le, if◌then◌else◌, Option, Some, None, Result, Ok, Err, List, [], ◌∷◌, length, bytes_eq, codes, take}
+use Rattle.std.specs.Prelude.{◌≡◌, ℕ, ◌&&◌, Bool, true, false, not, nat_lt, nat_le, if◌then◌else◌, Option, Some, None, Result, Ok, Err, IsOk, List, [], ◌∷◌, length, bytes_eq, codes, take}
 use Rattle.mr_base.specs.Outside.{Files, HasFile, LastCall}
 use Rattle.mr_model.specs.declared.entry.Entry.{Entry}
 use Rattle.mr_model.specs.Legal.{IsLegal}
@@ -75,3 +75,11 @@ IfStoreFault _ P = Unit {0}
 abbrev pub StopsAt : {A : Type 0} → Result A Stop → Result (List Entry) ℕ → Type 0
 StopsAt (Err (stop.NotBuilt line)) outcome = outcome ≡ Err line
 StopsAt _ outcome = Unit {0}
+
+-- Where no call of the outside failed, a run ends by what the bytes come to: Good where all is built, else NotBuilt at the
+-- first line that is not. Memory may run out.
+abbrev pub EndsBy : Status → Result (List Entry) ℕ → Type 0
+EndsBy status.Good outcome = IsOk outcome
+EndsBy (status.NotBuilt line) outcome = outcome ≡ Err line
+EndsBy status.Memory outcome = Unit {0}
+EndsBy _ outcome = ⊥

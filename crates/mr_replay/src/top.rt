@@ -1,10 +1,10 @@
 //! The top call.
 
-ghost use Rattle.std.specs.Prelude.{[], ◌≡◌, ◌⊎◌, ◌↔◌, ◌≤◌, length, map, string_bytes, MatchOption, IfOk, IfSome, None, Some, true};
-ghost use Rattle.mr_base.specs.Outside.{Rose, AllStay, Takes, TakesPrefix};
+ghost use Rattle.std.specs.Prelude.{ℕ, List, [], ◌≡◌, ◌⊎◌, ◌↔◌, ◌≤◌, length, map, string_bytes, MatchOption, IfOk, IfSome, None, Some, true};
+ghost use Rattle.mr_base.specs.Outside.{Files, Rose, AllStay, Takes, TakesPrefix};
 ghost use Rattle.mr_replay.specs.Built.{AllBuilt};
 ghost use Rattle.mr_replay.specs.Text.{text};
-ghost use Rattle.mr_replay.specs.Endings.{is_file_word, file_asked, RunsTo, Replays, Stops, StopsAt, failed_read, is_silent, IfNotBuilt, IfStoreFault};
+ghost use Rattle.mr_replay.specs.Endings.{is_file_word, file_asked, RunsTo, Replays, Stops, StopsAt, failed_read, is_silent, IfNotBuilt, IfStoreFault, EndsBy};
 ghost use Rattle.mr_replay.specs.Played.{outcome_of};
 ghost use Rattle.mr_replay.specs.declared.status.Status.TheVariants as status;
 
@@ -121,6 +121,14 @@ pub fn run<R: Wait + Threads + Sync, S: Store, K: Sink, D: Door, C: Clock, G: Ga
     // What was taken is a prefix of the text that Good would have written, and the sink's count rose.
     ensures sink_fault { result ≡ status.SinkFault → Replays (map string_bytes words.now) (S.told store.old) (λ text. TakesPrefix (K.taken out.old) text (K.taken out.new)) }
     ensures sink_rose { result ≡ status.SinkFault → Rose (K.faults out.old) (K.faults out.new) }
+    // Over a store that tells, and where no count of faults rose, the file's bytes decide between Good and NotBuilt.
+    ensures complete { (files : Files) (file bytes : List ℕ) →
+        file_asked (map string_bytes words.now) ≡ Some file →
+        S.told store.old ≡ Some files →
+        files file ≡ Some bytes →
+        (Rose (S.faults store.old) (S.faults store.new) → ⊥) →
+        (Rose (K.faults out.old) (K.faults out.new) → ⊥) →
+        EndsBy result (outcome_of bytes) }
     // With the other statuses nothing is written, and no file ever changes.
     ensures silent { is_silent result ≡ true → out.new ≡ out.old }
     ensures files { AllStay (S.told store.old) (S.told store.new) }
