@@ -107,7 +107,7 @@ pub fn found(vifs: &[VifRecord], routes: &[Route], dev: u32, src: Addr, dst: Add
 }
 
 /// Whether it is this vif.
-fn is_vif(vif: Option<u8>, i: u8) -> bool
+pub fn is_vif(vif: Option<u8>, i: u8) -> bool
     ensures { result ≡ is_vif vif i }
 {
     match vif {
@@ -181,7 +181,7 @@ fn input_of(vifs: &[VifRecord], r: &Route) -> Option<u8>
 }
 
 /// Whether a vif is in a mask.
-fn is_in(outs: Mask, i: u8) -> bool
+pub fn is_in(outs: Mask, i: u8) -> bool
     requires { i < 32 }
     ensures { result ≡ is_in outs i }
 {

@@ -207,8 +207,18 @@ fn packets(rt: HostRuntime) -> Result<(), Fail> {
     Ok(())
 }
 
+/// What a run of the setup and further lines ends with that are not built: its status's number, the line, and how much
+/// was written.
+fn stopped<R: AllocGlobal + Wait + Threads + Sync>(
+    rt: &R,
+    more: &str,
+) -> Result<(u8, u32, usize), AllocError> {
+    let (status, written) = after_setup(rt, more)?;
+    Ok((status.number(), line_of(&status), written.len()))
+}
+
 #[test]
-fn calls_and_packets_not_built(rt: HostRuntime) -> Result<(), Fail> {
+fn calls_not_built(rt: HostRuntime) -> Result<(), Fail> {
     let cases = [
         ("daemon 1 addvif 0 8 @1\n", 10),
         ("daemon 1 addvif 32 8 @1\n", 10),
@@ -225,6 +235,18 @@ fn calls_and_packets_not_built(rt: HostRuntime) -> Result<(), Fail> {
         ("daemon 1 addmfc 10.0.0.9 239.1.1.1 0 1:256\n", 10),
         ("daemon 1 addmfc 10.0.0.9 239.1.1.1 0 1:01\n", 10),
         ("daemon 1 addmfc 10.0.0.9 239.1.1.1 0 1:1:1\n", 10),
+        // A line that is not built comes before a call that is not.
+        ("daemon 1 init\nphase\ndaemon 1 recv\n", 12),
+    ];
+    for (more, want) in cases {
+        assert_eq!(rt; stopped(&rt, more)?, (12, want, 0), "at {more}");
+    }
+    Ok(())
+}
+
+#[test]
+fn packets_not_built(rt: HostRuntime) -> Result<(), Fail> {
+    let cases = [
         (
             "lane 2 pkt eth0 4500001c000100000211bec50a000009ef01010103e803e900080000\n",
             10,
@@ -262,14 +284,9 @@ fn calls_and_packets_not_built(rt: HostRuntime) -> Result<(), Fail> {
             "phase\nlane 1 pkt eth1 4500001c000100000211bec50a000009ef01010103e803e900080000\n",
             11,
         ),
-        // A line that is not built comes before a call or packet that is not.
-        ("daemon 1 init\nphase\ndaemon 1 recv\n", 12),
     ];
     for (more, want) in cases {
-        let (status, written) = after_setup(&rt, more)?;
-        assert_eq!(rt; status.number(), 12, "at {more}");
-        assert_eq!(rt; line_of(&status), want, "at {more}");
-        assert_eq!(rt; written.len(), 0);
+        assert_eq!(rt; stopped(&rt, more)?, (12, want, 0), "at {more}");
     }
     Ok(())
 }

@@ -5,6 +5,7 @@ ghost use Rattle.std.specs.List.{AllByRecursion};
 ghost use Rattle.mr_model.specs.Verdict.{is_in, is_vif};
 ghost use Rattle.mr_replay.specs.Machines.{IsRouteOf, IsVifOf, route_with, routes_with, vif_with_in, vif_with_out, vifs_with};
 
+use crate::decide::{is_in, is_vif};
 use mr_base::{Mask, Route, VifRecord};
 use mr_model::{RouteTotals, VifTotals};
 
@@ -32,24 +33,6 @@ pub fn count_route(totals: &mut [RouteTotals], routes: &[Route], entry: u32, siz
     for i in 0..totals.len() {
         totals[i] = route_with(entry == routes[i].number, size, totals[i]);
     }
-}
-
-/// Whether it is this vif.
-fn is_vif(vif: Option<u8>, i: u8) -> bool
-    ensures { result ≡ is_vif vif i }
-{
-    match vif {
-        None => false,
-        Some(j) => j == i,
-    }
-}
-
-/// Whether a vif is in a mask.
-fn is_in(outs: Mask, i: u8) -> bool
-    requires { i < 32 }
-    ensures { result ≡ is_in outs i }
-{
-    (outs.0 >> i) % 2 == 1
 }
 
 /// A vif's totals with one packet more that came in, where it counts.
