@@ -1,5 +1,5 @@
-use Rattle.mr_scenario.proofs.Cuts.{part_first, part_alone}
-use Rattle.mr_scenario.proofs.forms.split_part.Goals as goal
+use Rattle.mr_words.proofs.Cuts.{part_first, part_alone}
+use Rattle.mr_words.proofs.parts.split_part.Goals as goal
 
 pub returns-then-end-word : goal.returns-then-end-word
 returns-then-end-word c =

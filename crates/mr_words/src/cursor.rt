@@ -1,7 +1,7 @@
 //! Lines and words, cut from the front of a slice.
 
 ghost use Rattle.std.specs.Prelude.{◌≡◌, ◌≢◌, ◌+◌, ◌<◌, ◌≤◌, ℕ, true, false, [], ◌∷◌, length, drop, slice_index, MatchOption};
-ghost use Rattle.mr_scenario.specs.Words.{is_blank, lines_of, without_return, words_of};
+ghost use Rattle.mr_words.specs.Words.{is_blank, lines_of, without_return, words_of};
 
 use memchr::{memchr, memchr2};
 

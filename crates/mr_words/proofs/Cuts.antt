@@ -1,7 +1,7 @@
 -- Where the first separator stands, a text is cut.
 use Rattle.std.proofs.Common.{◌≡◌, ◌≢◌, ℕ, zero, suc, ◌+◌, ◌<◌, ◌≤◌, ◌==◌, true, false, List, [], ◌∷◌, length, take, drop, slice_index, refl, ap, ◌∙◌, sym, arith, add-one, eq-eqb, ne_eqb, eq-or-lt_of_le, take_all, drop_of_length-le, subst, inl, inr}
-use Rattle.mr_scenario.specs.Forms.{before, parts_behind, parts_of}
-use Rattle.mr_scenario.specs.Words.{is_blank, lines_of, front_word, words_behind, with_word, words_of}
+use Rattle.mr_words.specs.Parts.{before, parts_behind, parts_of}
+use Rattle.mr_words.specs.Words.{is_blank, lines_of, front_word, words_behind, with_word, words_of}
 
 -- A line ends at the first line feed.
 pub lines_at : (bs : List ℕ) (i : ℕ) → i < length bs → ((k : ℕ) → k < i → slice_index bs k ≢ 10) → slice_index bs i ≡ 10 →

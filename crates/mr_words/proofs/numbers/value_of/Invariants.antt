@@ -1,6 +1,6 @@
 use Rattle.std.proofs.Common.{◌≡◌, ◌≤◌, drop, fold}
-use Rattle.mr_scenario.specs.Forms.{digit_on}
-use Rattle.mr_scenario.proofs.forms.value_of.Given as goal
+use Rattle.mr_words.specs.Numbers.{digit_on}
+use Rattle.mr_words.proofs.numbers.value_of.Given as goal
 
 abbrev pub invariant-loop-b : goal.invariant-loop-b
 invariant-loop-b l = record {

@@ -1,5 +1,5 @@
-use Rattle.mr_scenario.proofs.Numbers.{too_great}
-use Rattle.mr_scenario.proofs.forms.value_of.Goals as goal
+use Rattle.mr_words.proofs.Digits.{too_great}
+use Rattle.mr_words.proofs.numbers.value_of.Goals as goal
 
 pub returns-in-None : goal.returns-in-None
 returns-in-None c = λ low.

@@ -1,7 +1,7 @@
 use Rattle.std.proofs.Common.{arith}
-use Rattle.mr_scenario.proofs.Cuts.{no_word, commented, word_first}
-use Rattle.mr_scenario.proofs.cursor.first_word.Goals as goal
-use Rattle.mr_scenario.proofs.cursor.first_word.Goals.{then-end-eq0-via-then-end-eq0, then-end-eq0-via-else-end-eq0+then-bytes-eq35}
+use Rattle.mr_words.proofs.Cuts.{no_word, commented, word_first}
+use Rattle.mr_words.proofs.cursor.first_word.Goals as goal
+use Rattle.mr_words.proofs.cursor.first_word.Goals.{then-end-eq0-via-then-end-eq0, then-end-eq0-via-else-end-eq0+then-bytes-eq35}
 
 pub returns-then-end-eq0 : goal.returns-then-end-eq0
 returns-then-end-eq0 c =

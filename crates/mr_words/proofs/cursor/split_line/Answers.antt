@@ -1,5 +1,5 @@
-use Rattle.mr_scenario.proofs.Cuts.{split_at_end}
-use Rattle.mr_scenario.proofs.cursor.split_line.Goals as goal
+use Rattle.mr_words.proofs.Cuts.{split_at_end}
+use Rattle.mr_words.proofs.cursor.split_line.Goals as goal
 
 pub returns : goal.returns
 returns c =

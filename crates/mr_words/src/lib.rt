@@ -1,0 +1,14 @@
+//! Texts cut into lines and words, and what single words spell: numbers, addresses, names of devices and files.
+#![tactic(auto)]
+
+mod cursor;
+mod names;
+mod numbers;
+mod parts;
+#[cfg(test)]
+mod tests;
+
+pub use cursor::{next_word, past, split_line, trimmed};
+pub use names::{is_clean, is_device_name, is_file, name_of};
+pub use numbers::{address_of, is_digit, number_of};
+pub use parts::split_part;
