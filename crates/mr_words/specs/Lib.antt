@@ -2,3 +2,4 @@ pub mod Words
 pub mod Parts
 pub mod Numbers
 pub mod Names
+pub mod Binds

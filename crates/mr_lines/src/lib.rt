@@ -1,0 +1,10 @@
+//! The lines of a history's text: what each says, its words, and both ways between them.
+#![tactic(auto)]
+
+mod line;
+mod skip;
+mod tail;
+
+pub use line::Line;
+pub use skip::Skip;
+pub use tail::{RouteLine, Tail, VifLine};

@@ -1,0 +1,7 @@
+//! A history as text: one text for each history, and each text read back.
+#![tactic(auto)]
+
+mod history_text;
+mod reading_state;
+
+pub use history_text::{HistoryText, TextError};
