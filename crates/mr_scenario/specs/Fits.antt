@@ -1,52 +1,50 @@
--- What a scenario that was read keeps: it fits its own limits.
-use Rattle.std.specs.Prelude.{◌≡◌, ◌≤◌, None, List, [], ◌∷◌, length, sum_by}
+-- What a scenario that was read keeps: it fits its own limits, and those of the machine.
+use Rattle.std.specs.Prelude.{◌≡◌, ◌≤◌, ◌+◌, ℕ, Bool, true, false, List, length, map, replicate, sum_by}
 use Rattle.std.specs.List.{AllByRecursion}
-use Rattle.mr_base.specs.Heads.{cause_of}
-use Rattle.mr_model.specs.Legal.{IsDaemon}
+use Rattle.mr_scenario.specs.PhaseLines.{is_smc_at}
+use Rattle.mr_scenario.specs.Spelled.{is_admin_kind, address_only}
 use Rattle.mr_scenario.specs.declared.scenario.Given.{Given}
-use Rattle.mr_scenario.specs.declared.scenario.Given.TheVariants.{Bytes}
+use Rattle.mr_scenario.specs.declared.scenario.Given.TheVariants.{Bytes, Trace}
 use Rattle.mr_scenario.specs.declared.scenario.Item.{Item}
 use Rattle.mr_scenario.specs.declared.scenario.Phase.{Phase}
 use Rattle.mr_scenario.specs.declared.scenario.Scenario.{Scenario}
-use Rattle.mr_scenario.specs.declared.scenario.Script.{Script}
-use Rattle.mr_scenario.specs.declared.scenario.Script.TheVariants.{Ask}
 use Rattle.mr_scenario.specs.declared.scenario.ScriptLine.{ScriptLine}
-use Rattle.mr_model.specs.declared.request.Request.TheVariants.{AddVif}
 
--- a line that adds a vif names its device by number
-abbrev pub IsNumbered : Script → Type 0
-IsNumbered (Ask (AddVif c)) = c.flags ≡ 8
-IsNumbered _ = Unit {0}
+-- an item of one of so many lanes, on one of so many devices
+pub record IsItem (lanes devices : ℕ) (i : Item) : Type 0 where
+  pub least_lane : 1 ≤ i.lane.0
+  pub most_lane : i.lane.0 ≤ lanes
+  pub least_device : 1 ≤ i.dev
+  pub most_device : i.dev ≤ devices
 
-abbrev pub AreNumbered : List ScriptLine → Type 0
-AreNumbered ls = AllByRecursion (λ l. IsNumbered l.script) ls
+-- a line of one of so many daemons
+pub record IsAsked (daemons : ℕ) (l : ScriptLine) : Type 0 where
+  pub least : 1 ≤ l.daemon.0
+  pub most : l.daemon.0 ≤ daemons
 
-abbrev pub AllNumbered : List Phase → Type 0
-AllNumbered ps = AllByRecursion (λ p. AreNumbered p.script) ps
+-- 1 for a packet's bytes; a trace counts once it is read
+abbrev pub packets_in : Given → ℕ
+packets_in (Bytes bs) = 1
+packets_in (Trace file) = 0
 
--- The bytes begin with an accepted head.
-abbrev pub IsAccepted : Given → Type 0
-IsAccepted (Bytes bs) = cause_of bs ≡ None
-
--- an item of the one lane, with an accepted head
-pub record IsPacket (i : Item) : Type 0 where
-  pub lane : i.lane.0 ≡ 1
-  pub accepted : IsAccepted i.given
+abbrev pub packets_of : List Phase → ℕ
+packets_of ps = sum_by (λ p. sum_by (λ i. packets_in i.given) p.items) ps
 
 pub record Fits (s : Scenario) : Type 0 where
-  pub phases : length s.phases ≤ s.limits.phases
-  -- no more script lines than control entries
-  pub controls : sum_by (λ p. length p.script) s.phases ≤ s.limits.controls
-  pub admins : length s.limits.admins ≡ length s.daemons
-  -- each script line is of a daemon that is declared
-  pub daemons : AllByRecursion (λ p. AllByRecursion (λ l. IsDaemon s.limits l.daemon) p.script) s.phases
-  pub numbered : AllNumbered s.phases
-  pub one_lane : s.lanes ≡ 1
-  -- all items are of that lane
-  pub items : AllByRecursion (λ p. AllByRecursion IsPacket p.items) s.phases
-  pub packets : s.limits.packets ≡ sum_by (λ p. length p.items) s.phases ∷ []
-  -- what the running code has to fit into its numbers
-  pub most_items : sum_by (λ p. length p.items) s.phases ≤ 1048576
-  pub most_controls : s.limits.controls ≤ 65536
-  pub most_phases : s.limits.phases ≤ 1000
-  pub most_devices : length s.limits.devices ≤ 64
+  pub least_entries : 1 ≤ s.limits.entries
+  pub most_entries : s.limits.entries ≤ 16384
+  pub least_unresolved : 1 ≤ s.limits.unresolved
+  pub most_unresolved : s.limits.unresolved ≤ 64
+  pub least_controls : 1 ≤ s.limits.controls
+  pub most_controls : s.limits.controls ≤ 1048576
+  pub phases : s.limits.phases ≡ length s.phases
+  pub most_phases : length s.phases ≤ 1000
+  pub lanes : s.limits.packets ≡ replicate s.lanes 0
+  pub most_lanes : s.lanes ≤ 16
+  pub admins : s.limits.admins ≡ map is_admin_kind s.daemons
+  pub most_daemons : length s.daemons ≤ 8
+  pub devices : s.limits.devices ≡ map address_only s.devices
+  pub most_devices : length s.devices ≤ 64
+  pub items : AllByRecursion (λ p. AllByRecursion (IsItem s.lanes (length s.devices)) p.items) s.phases
+  pub script : AllByRecursion (λ p. AllByRecursion (IsAsked (length s.daemons)) p.script) s.phases
+  pub most_packets : packets_of s.phases ≤ 1048576

@@ -1,5 +1,9 @@
-pub mod Words
+pub mod Kinds
+pub mod Counts
 pub mod Forms
+pub mod HeadLines
+pub mod Requests
+pub mod PhaseLines
 pub mod Spelled
 pub mod Fits
 pub mod Answers

@@ -1,20 +1,11 @@
 //! Scenarios: what a run is asked to do, what the lines of a text spell, and the reader that gives it.
 #![tactic(auto)]
 
-mod cursor;
+mod boxed_name;
 mod draft;
-mod forms;
-mod head_lines;
-mod hex;
-mod laws;
-mod phase_lines;
-mod reading;
 mod scenario;
 mod stop;
-#[cfg(test)]
-mod tests;
 
-pub use laws::spelled_fits;
-pub use reading::read;
+pub use boxed_name::BoxedName;
 pub use scenario::{DaemonKind, Given, Item, Named, Phase, Scenario, Script, ScriptLine};
-pub use stop::Stop;
+pub use stop::{Kind, ScenarioError};

@@ -1,5 +1,6 @@
 //! Scenarios: what a run is asked to do.
 
+use crate::boxed_name::BoxedName;
 use mr_base::{Addr, DaemonNo, FileName, LaneNo, List};
 use mr_model::{Limits, Request};
 
@@ -11,19 +12,23 @@ pub struct Named {
 }
 
 /// The sorts of daemon.
-#[derive(Clone, Copy, Debug, PartialEq, Eq)]
+#[derive(Debug, Drop)]
 pub enum DaemonKind {
     /// It may change tables only while it owns the machine.
     Plain,
     /// It may always change tables.
     Admin,
+    /// An admin that is driven by smcroute, with 1 to 8 configuration files.
+    Smc(List<FileName>),
 }
 
 /// What a lane is given.
 #[derive(Debug, Drop)]
 pub enum Given {
-    /// The bytes of one packet.
+    /// The bytes of one packet, at most 65,535.
     Bytes(List<u8>),
+    /// A file, each of whose records is an item.
+    Trace(BoxedName),
 }
 
 /// An item of a lane.
@@ -38,18 +43,28 @@ pub struct Item {
 }
 
 /// What a daemon does.
-#[derive(Clone, Copy, Debug)]
+#[derive(Debug, Drop)]
 pub enum Script {
     /// It makes a control call.
     Ask(Request),
+    /// It sets an option to these bytes, at most 65,535.
+    Raw { opt: u16, bytes: List<u8> },
+    /// It asks for another table (MRT_TABLE), which no machine of one table has.
+    Table(u32),
     /// It lets so many milliseconds pass.
     Tick(u32),
     /// It asks for a report.
     Recv,
+    /// Its smcroute starts.
+    Start,
+    /// It asks for up to so many reports, 1 to 64.
+    Poll(u32),
+    /// A command of smcroutectl: its words, parted by one space.
+    Words(List<u8>),
 }
 
 /// A line of a daemon's script.
-#[derive(Clone, Copy, Debug)]
+#[derive(Debug, Drop)]
 pub struct ScriptLine {
     /// Its line in the scenario.
     pub line: u32,
@@ -68,13 +83,17 @@ pub struct Phase {
     pub script: List<ScriptLine>,
 }
 
-/// A whole scenario.
+/// A whole scenario. Lines are counted from 1, and one beyond 4,294,967,295 has that number.
 #[derive(Debug, Drop)]
 pub struct Scenario {
+    /// Its `packets` are one zero per lane: the items are not read yet.
     pub limits: Limits,
+    /// At most 64, numbered from 1.
     pub devices: List<Named>,
     /// How many lanes there are, 0 to 16.
     pub lanes: u32,
+    /// At most 8, numbered from 1.
     pub daemons: List<DaemonKind>,
+    /// At most 1,000.
     pub phases: List<Phase>,
 }
