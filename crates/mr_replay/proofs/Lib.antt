@@ -1,14 +1,1 @@
-pub mod Bare
-pub mod BuiltEnding
-pub mod Costing
-pub mod Finishing
-pub mod Holding
-pub mod Items
-pub mod Keeping
-pub mod Lines
-pub mod Looks
-pub mod Packeting
-pub mod Phases
-pub mod Running
-pub mod TableLemmas
-pub mod WritingLemmas
+

@@ -9,7 +9,7 @@ use Rattle.mr_model.specs.declared.request.Request.TheVariants.{Init, AddVif, Ad
 
 abbrev pub IsBuilt : Entry → Type 0
 IsBuilt (Call d Init Good []) = Unit {0}
-IsBuilt (Call d (AddVif c) Good []) = c.flags ≡ 8
+IsBuilt (Call d (AddVif c) Good []) = Unit {0}
 IsBuilt (Call d (AddMfc c) Good []) = Unit {0}
 IsBuilt (Slow lane index look flow (Forward entry input outs)) = Unit {0}
 IsBuilt EndPhase = Unit {0}

@@ -6,10 +6,10 @@ use Rattle.mr_model.specs.Legal.{IsLegal}
 use Rattle.mr_scenario.specs.declared.scenario.Scenario.{Scenario}
 use Rattle.mr_replay.specs.declared.status.Status.{Status}
 use Rattle.mr_replay.specs.declared.status.Status.TheVariants as status
-use Rattle.mr_scenario.specs.declared.stop.Stop.{Stop}
-use Rattle.mr_scenario.specs.declared.stop.Stop.TheVariants as stop
+use Rattle.mr_scenario.specs.declared.stop.Kind.{Kind}
 use Rattle.mr_scenario.specs.Spelled.{spelled}
-use Rattle.mr_replay.specs.Played.{outcome_of}
+use Rattle.mr_replay.specs.Outcomes.{outcome_of}
+use Rattle.mr_replay.specs.Loading.{run_limits}
 use Rattle.mr_replay.specs.Made.{Made}
 use Rattle.mr_replay.specs.Text.{history_text}
 
@@ -28,7 +28,7 @@ pub record RunsTo (bytes text : List ℕ) : Type 0 where
   pub history : List Entry
   pub spells : spelled bytes ≡ Ok scenario
   pub built : outcome_of bytes ≡ Ok history
-  pub legal : IsLegal scenario.limits history
+  pub legal : IsLegal (run_limits scenario) history
   pub made : Made scenario history
   pub text_is : text ≡ history_text scenario history
 
@@ -46,11 +46,11 @@ pub record Replays (words : List (List ℕ)) (told : Option Files) (IsTaken : Li
   pub run : RunsTo bytes text
   pub taken : IsTaken text
 
--- The file asked for stops at this line, the first that is not built.
-pub record Stops (words : List (List ℕ)) (told : Option Files) (line : ℕ) : Type 0 where
+-- The file asked for comes to this status.
+pub record ComesTo (words : List (List ℕ)) (told : Option Files) (s : Status) : Type 0 where
   pub bytes : List ℕ
   pub asked : IsAsked words told bytes
-  pub outcome : outcome_of bytes ≡ Err line
+  pub outcome : outcome_of bytes ≡ Err s
 
 -- the read of this file that failed
 abbrev pub failed_read : List ℕ → LastCall
@@ -63,6 +63,10 @@ is_silent status.SinkFault = false
 is_silent _ = true
 
 -- a fact for each status
+abbrev pub IfScenario : Status → (ℕ → Kind → Type 0) → Type 0
+IfScenario (status.Scenario line k) P = P line k
+IfScenario _ P = Unit {0}
+
 abbrev pub IfNotBuilt : Status → (ℕ → Type 0) → Type 0
 IfNotBuilt (status.NotBuilt line) P = P line
 IfNotBuilt _ P = Unit {0}
@@ -71,15 +75,18 @@ abbrev pub IfStoreFault : Status → (List ℕ → Type 0) → Type 0
 IfStoreFault (status.StoreFault file) P = P file
 IfStoreFault _ P = Unit {0}
 
--- Bytes that stop at a line are those whose first line that is not built it is.
-abbrev pub StopsAt : {A : Type 0} → Result A Stop → Result (List Entry) ℕ → Type 0
-StopsAt (Err (stop.NotBuilt line)) outcome = outcome ≡ Err line
-StopsAt _ outcome = Unit {0}
+-- A function that stops by a status but Memory stops by what the bytes come to.
+abbrev pub StopsBy : {A B : Type 0} → Result A Status → Result B Status → Type 0
+StopsBy (Ok x) outcome = Unit {0}
+StopsBy (Err status.Memory) outcome = Unit {0}
+StopsBy (Err s) outcome = outcome ≡ Err s
 
--- Where no call of the outside failed, a run ends by what the bytes come to: Good where all is built, else NotBuilt at the
--- first line that is not. Memory may run out.
-abbrev pub EndsBy : Status → Result (List Entry) ℕ → Type 0
+-- Where no call of the outside failed, a run ends by what the bytes come to: Good where they come to a history, else by the
+-- status to which they come. Memory may run out.
+abbrev pub EndsBy : Status → Result (List Entry) Status → Type 0
 EndsBy status.Good outcome = IsOk outcome
-EndsBy (status.NotBuilt line) outcome = outcome ≡ Err line
 EndsBy status.Memory outcome = Unit {0}
-EndsBy _ outcome = ⊥
+EndsBy status.Usage outcome = ⊥
+EndsBy (status.StoreFault file) outcome = ⊥
+EndsBy status.SinkFault outcome = ⊥
+EndsBy s outcome = outcome ≡ Err s

@@ -1,8 +1,12 @@
 pub mod Made
-pub mod Text
+pub mod Loading
 pub mod Played
+pub mod Unbuilt
+pub mod Outcomes
 pub mod Built
-pub mod Machines
-pub mod Laws
+pub mod Text
 pub mod Endings
+pub mod Laws
+pub mod Journals
+pub mod Machines
 pub mod Statuses

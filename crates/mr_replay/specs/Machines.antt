@@ -16,8 +16,8 @@ use Rattle.mr_model.specs.State.{State, state}
 use Rattle.mr_model.specs.Verdict.{is_in, is_vif}
 use Rattle.mr_replay.specs.declared.machine.Machine.{Machine}
 use Rattle.mr_scenario.specs.declared.scenario.Phase.{Phase}
-use Rattle.mr_scenario.specs.declared.stop.Stop.{Stop}
-use Rattle.mr_scenario.specs.declared.stop.Stop.TheVariants as stop
+use Rattle.mr_replay.specs.declared.halt.Halt.{Halt}
+use Rattle.mr_replay.specs.declared.halt.Halt.TheVariants as halt
 use Rattle.mr_replay.specs.Built.{AllBuilt}
 
 -- the state of a machine with n entries: nothing waits, no report is unread, and no time goes by
@@ -70,17 +70,23 @@ pub record Keeps (limits : Limits) (h : List Entry) (owner : Option DaemonNo) (v
   pub holds : Holds (length h) (met h) vifs vif_totals routes route_totals
 
 abbrev pub Follows : Machine → Type 0
-Follows m = Keeps m.limits.now m.entries.items m.owner m.vifs.items m.vif_totals.items m.routes.items m.route_totals.items
+Follows m = Keeps m.limits.now m.entries m.owner m.vifs.items m.vif_totals.items m.routes.items m.route_totals.items
 
 -- so many entries more leave all numbers small
 abbrev pub HasRoom : Machine → ℕ → Type 0
-HasRoom m n = length m.entries.items + n ≤ 4194304
+HasRoom m n = length m.entries + n ≤ 4194304
 
 -- A machine goes on to one of the same limits with this history, or this line is not built; memory may run out.
-abbrev pub RunsOn : Machine → Result Machine Stop → Result (List Entry) ℕ → Type 0
-RunsOn before (Ok after) run = (run ≡ Ok after.entries.items) × (after.limits ≡ before.limits) × Follows after
-RunsOn before (Err (stop.NotBuilt line)) run = run ≡ Err line
-RunsOn before (Err stop.Memory) run = Unit {0}
+abbrev pub RunsOn : Machine → Result Machine Halt → Result (List Entry) ℕ → Type 0
+RunsOn before (Ok after) run = (run ≡ Ok after.entries) × (after.limits ≡ before.limits) × Follows after
+RunsOn before (Err (halt.NotBuilt line)) run = run ≡ Err line
+RunsOn before (Err halt.Memory) run = Unit {0}
+
+-- What a function returned, seen by view, is this, or this line is not built; memory may run out.
+abbrev pub Comes : {A B : Type 0} → (A → B) → Result A Halt → Result B ℕ → Type 0
+Comes view (Ok x) value = value ≡ Ok (view x)
+Comes view (Err (halt.NotBuilt line)) value = value ≡ Err line
+Comes view (Err halt.Memory) value = Unit {0}
 
 -- The machines have the same limits, history, owner and vifs.
 pub record IsSame (m n : Machine) : Type 0 where

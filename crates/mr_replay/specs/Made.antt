@@ -6,8 +6,9 @@ use Rattle.mr_model.specs.declared.entry.Entry.{Entry}
 use Rattle.mr_model.specs.declared.entry.Entry.TheVariants.{Call, Slow, Settle, Tick, Recv, EndPhase}
 use Rattle.mr_model.specs.declared.flow.Flow.{Flow}
 use Rattle.mr_model.specs.Past.{is_end}
+use Rattle.mr_model.specs.declared.request.Request.TheVariants.{Unknown}
 use Rattle.mr_scenario.specs.declared.scenario.Given.{Given}
-use Rattle.mr_scenario.specs.declared.scenario.Given.TheVariants.{Bytes}
+use Rattle.mr_scenario.specs.declared.scenario.Given.TheVariants.{Bytes, Trace}
 use Rattle.mr_scenario.specs.declared.scenario.Item.{Item}
 use Rattle.mr_scenario.specs.declared.scenario.Phase.{Phase}
 use Rattle.mr_scenario.specs.declared.scenario.Scenario.{Scenario}
@@ -49,9 +50,10 @@ flow_of dev bs = record {
   length = two_at bs 2;
 }
 
--- item number n of a lane as a packet; none where its head is refused
+-- item number n of a lane as a packet; none where its head is refused. Traces are not read yet.
 abbrev pub packet_of : ℕ → ℕ → Given → List Sent
 packet_of n dev (Bytes bs) = if is_none (cause_of bs) then record { index = n; flow = flow_of dev bs } ∷ [] else []
+packet_of n dev (Trace file) = []
 
 -- the packets of a lane among items, of which the lane's first has number n
 abbrev pub packets_from : ℕ → ℕ → List Item → List Sent
@@ -67,8 +69,13 @@ items_of lane is = sum_by (λ i. if i.lane.0 == lane then 1 else 0) is
 abbrev pub to_send : ℕ → List Item → Phase → List Sent
 to_send lane before p = packets_from lane (items_of lane before + 1) p.items
 
+-- A line that asks for another table asks for an option that cannot be set (MRT_TABLE, 209).
+abbrev pub as_asked : Script → Script
+as_asked (script.Table n) = script.Ask (Unknown 209)
+as_asked s = s
+
 abbrev pub of_daemon : ℕ → ScriptLine → List Script
-of_daemon d l = if l.daemon.0 == d then l.script ∷ [] else []
+of_daemon d l = if l.daemon.0 == d then as_asked l.script ∷ [] else []
 
 -- what a daemon is to ask in a phase
 abbrev pub to_ask : ℕ → Phase → List Script

@@ -1,30 +1,32 @@
 -- The run of a scenario on one thread, and what of it is not built: calls that are not answered `Good`, and packets that are not
 -- plainly forwarded.
-use Rattle.std.specs.Prelude.{ℕ, ◌+◌, ◌==◌, Bool, true, false, not, if◌then◌else◌, Result, Ok, Err, List, [], ◌∷◌, ◌++◌, length}
+use Rattle.std.specs.Prelude.{ℕ, ◌+◌, ◌==◌, Bool, true, false, not, is_none, if◌then◌else◌, Result, Ok, Err, List, [], ◌∷◌, ◌++◌, length, filter}
+use Rattle.mr_base.specs.Heads.{cause_of}
 use Rattle.mr_base.specs.declared.numbers.DaemonNo.{DaemonNo}
+use Rattle.mr_base.specs.declared.numbers.LaneNo.{LaneNo}
 use Rattle.mr_model.specs.declared.entry.Entry.{Entry}
 use Rattle.mr_model.specs.declared.entry.Entry.TheVariants.{Call, Slow, EndPhase}
-use Rattle.mr_base.specs.declared.numbers.LaneNo.{LaneNo}
 use Rattle.mr_model.specs.declared.flow.Flow.{Flow}
+use Rattle.mr_model.specs.declared.limits.Limits.{Limits}
 use Rattle.mr_model.specs.declared.outcome.Outcome.{Outcome}
 use Rattle.mr_model.specs.declared.outcome.Outcome.TheVariants.{Forward}
-use Rattle.mr_model.specs.Outcome.{outcome}
-use Rattle.mr_scenario.specs.declared.scenario.Given.{Given}
-use Rattle.mr_scenario.specs.declared.scenario.Given.TheVariants.{Bytes}
-use Rattle.mr_scenario.specs.declared.scenario.Item.{Item}
-use Rattle.mr_replay.specs.Made.{flow_of}
-use Rattle.mr_model.specs.declared.limits.Limits.{Limits}
 use Rattle.mr_model.specs.declared.reply.Reply.{Reply}
 use Rattle.mr_model.specs.declared.reply.Reply.TheVariants.{Good}
 use Rattle.mr_model.specs.declared.request.Request.{Request}
 use Rattle.mr_model.specs.declared.request.Request.TheVariants as request
 use Rattle.mr_model.specs.Answer.{Answered, answer}
+use Rattle.mr_model.specs.Outcome.{outcome}
+use Rattle.mr_scenario.specs.declared.scenario.Given.{Given}
+use Rattle.mr_scenario.specs.declared.scenario.Given.TheVariants.{Bytes, Trace}
+use Rattle.mr_scenario.specs.declared.scenario.Item.{Item}
 use Rattle.mr_scenario.specs.declared.scenario.Phase.{Phase}
 use Rattle.mr_scenario.specs.declared.scenario.Scenario.{Scenario}
 use Rattle.mr_scenario.specs.declared.scenario.Script.{Script}
 use Rattle.mr_scenario.specs.declared.scenario.Script.TheVariants as script
 use Rattle.mr_scenario.specs.declared.scenario.ScriptLine.{ScriptLine}
-use Rattle.mr_scenario.specs.Spelled.{◌>>=◌, spelled}
+use Rattle.mr_replay.specs.Loading.{one_to, run_limits}
+use Rattle.mr_replay.specs.Made.{flow_of, items_of}
+use Rattle.mr_words.specs.Binds.{◌>>=◌}
 
 abbrev pub is_good : Reply → Bool
 is_good Good = true
@@ -58,30 +60,45 @@ abbrev pub with_outcome : List Entry → ℕ → LaneNo → ℕ → Flow → Out
 with_outcome h line lane n flow (Forward entry input outs) = Ok (h ++ Slow lane n (length h) flow (Forward entry input outs) ∷ [])
 with_outcome h line lane n flow _ = Err line
 
+-- item number n of the lane: it is decided by the history so far; it is no packet where its head is refused
 abbrev pub play_given : Limits → List Entry → ℕ → LaneNo → ℕ → ℕ → Given → Result (List Entry) ℕ
-play_given limits h line lane n dev (Bytes bs) = with_outcome h line lane n (flow_of dev bs) (outcome limits h (flow_of dev bs))
+play_given limits h line lane n dev (Bytes bs) =
+    if is_none (cause_of bs) then with_outcome h line lane n (flow_of dev bs) (outcome limits h (flow_of dev bs)) else Ok h
+play_given limits h line lane n dev (Trace file) = Err line
 
--- item n of the lane: it is decided by the history so far
 abbrev pub play_item : Limits → List Entry → ℕ → Item → Result (List Entry) ℕ
 play_item limits h n i = play_given limits h i.line i.lane n i.dev i.given
 
--- the items of the lane, of which the first has number n
-abbrev pub play_items : Limits → List Entry → ℕ → List Item → Result (List Entry) ℕ
-play_items limits h n [] = Ok h
-play_items limits h n (i ∷ is) = play_item limits h n i >>= λ g. play_items limits g (n + 1) is
+-- the items of a lane among these, of which the lane's first has number n
+abbrev pub play_items : Limits → List Entry → ℕ → ℕ → List Item → Result (List Entry) ℕ
+play_items limits h lane n [] = Ok h
+play_items limits h lane n (i ∷ is) =
+    if i.lane.0 == lane then (play_item limits h n i >>= λ g. play_items limits g lane (n + 1) is) else play_items limits h lane n is
 
--- a phase: the lines of its daemon, then the items of its lane, of which the first has number n, then its end
-abbrev pub play_phase : Limits → List Entry → ℕ → Phase → Result (List Entry) ℕ
-play_phase limits h n p = play_lines limits h p.script >>= λ g. play_items limits g n p.items >>= λ k. Ok (k ++ EndPhase ∷ [])
+-- the lines of a daemon
+abbrev pub lines_of : ℕ → List ScriptLine → List ScriptLine
+lines_of d ls = filter (λ l. l.daemon.0 == d) ls
 
-abbrev pub play_phases : Limits → List Entry → ℕ → List Phase → Result (List Entry) ℕ
-play_phases limits h n [] = Ok h
-play_phases limits h n (p ∷ ps) = play_phase limits h n p >>= λ g. play_phases limits g (n + length p.items) ps
+-- the daemons by number, each with all its lines
+abbrev pub play_daemons : Limits → List Entry → List ScriptLine → List ℕ → Result (List Entry) ℕ
+play_daemons limits h ls [] = Ok h
+play_daemons limits h ls (d ∷ ds) = play_lines limits h (lines_of d ls) >>= λ g. play_daemons limits g ls ds
+
+-- the lanes by number, each with all its items in the phase, behind those of former phases
+abbrev pub play_lanes : Limits → List Entry → List Item → List Item → List ℕ → Result (List Entry) ℕ
+play_lanes limits h before is [] = Ok h
+play_lanes limits h before is (l ∷ ls) = play_items limits h l (items_of l before + 1) is >>= λ g. play_lanes limits g before is ls
+
+-- a phase: its daemons, then its lanes, then its end
+abbrev pub play_phase : Scenario → List Entry → List Item → Phase → Result (List Entry) ℕ
+play_phase s h before p =
+    play_daemons (run_limits s) h p.script (one_to (length s.daemons)) >>= λ g.
+    play_lanes (run_limits s) g before p.items (one_to s.lanes) >>= λ k. Ok (k ++ EndPhase ∷ [])
+
+abbrev pub play_phases : Scenario → List Entry → List Item → List Phase → Result (List Entry) ℕ
+play_phases s h before [] = Ok h
+play_phases s h before (p ∷ ps) = play_phase s h before p >>= λ g. play_phases s g (before ++ p.items) ps
 
 -- the history of a scenario, or the line of its first call or packet that is not built
 abbrev pub played : Scenario → Result (List Entry) ℕ
-played scenario = play_phases scenario.limits [] 1 scenario.phases
-
--- what bytes come to: the history, or the first line that is not built, by its form or else by its call or packet
-abbrev pub outcome_of : List ℕ → Result (List Entry) ℕ
-outcome_of bytes = spelled bytes >>= played
+played s = play_phases s [] [] s.phases

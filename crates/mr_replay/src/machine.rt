@@ -1,12 +1,13 @@
 use mr_base::{DaemonNo, Route, VifRecord};
-use mr_model::{Entry, Limits, RouteTotals, VifTotals};
+use crate::journal::Journal;
+use mr_model::{Limits, RouteTotals, VifTotals};
 
 /// The machine that runs a scenario on one thread.
 #[derive(Drop)]
 pub struct Machine<'a> {
     pub limits: &'a Limits,
     /// The history so far.
-    pub entries: Vec<Entry>,
+    pub entries: Journal,
     /// The daemon that owns it.
     pub owner: Option<DaemonNo>,
     /// In the order in which they were added.

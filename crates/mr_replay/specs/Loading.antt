@@ -1,0 +1,64 @@
+-- What is loaded of a scenario: its skips, and how many packets each lane has.
+use Rattle.std.specs.Prelude.{ℕ, ◌+◌, ◌==◌, zero, suc, if◌then◌else◌, Option, Some, None, List, [], ◌∷◌, ◌++◌, length, map, flat_map}
+use Rattle.mr_base.specs.Heads.{cause_of}
+use Rattle.mr_base.specs.declared.head_error.HeadError.{HeadError}
+use Rattle.mr_base.specs.declared.head_error.HeadError.TheVariants as head_error
+use Rattle.mr_lines.specs.declared.skip.Skip.{Skip}
+use Rattle.mr_model.specs.declared.limits.Limits.{Limits}
+use Rattle.mr_scenario.specs.declared.scenario.Given.{Given}
+use Rattle.mr_scenario.specs.declared.scenario.Given.TheVariants.{Bytes, Trace}
+use Rattle.mr_scenario.specs.declared.scenario.Item.{Item}
+use Rattle.mr_scenario.specs.declared.scenario.Phase.{Phase}
+use Rattle.mr_scenario.specs.declared.scenario.Scenario.{Scenario}
+use Rattle.mr_replay.specs.Made.{packets_from}
+
+-- so many numbers, of which the first is n
+abbrev pub from_on : ℕ → ℕ → List ℕ
+from_on n zero = []
+from_on n (suc k) = n ∷ from_on (n + 1) k
+
+-- 1 up to n
+abbrev pub one_to : ℕ → List ℕ
+one_to n = from_on 1 n
+
+-- the number of the cause for which a head is refused (HeadError)
+abbrev pub cause_number : HeadError → ℕ
+cause_number head_error.Short = 1
+cause_number head_error.Version = 2
+cause_number head_error.HeaderLength = 3
+cause_number head_error.Checksum = 4
+cause_number head_error.TotalLength = 5
+cause_number head_error.NotMulticast = 6
+cause_number head_error.LinkLocal = 7
+cause_number head_error.BadSource = 8
+
+abbrev pub skip_by : ℕ → ℕ → Option HeadError → List Skip
+skip_by lane n None = []
+skip_by lane n (Some e) = record { lane = record { 0 = lane }; index = n; cause = cause_number e } ∷ []
+
+-- item number n of a lane as a skip; none where its head is accepted. Traces are not read yet.
+abbrev pub skip_of : ℕ → ℕ → Given → List Skip
+skip_of lane n (Bytes bs) = skip_by lane n (cause_of bs)
+skip_of lane n (Trace file) = []
+
+-- the skips of a lane among items, of which the lane's first has number n
+abbrev pub skips_from : ℕ → ℕ → List Item → List Skip
+skips_from lane n [] = []
+skips_from lane n (i ∷ is) =
+    if i.lane.0 == lane then skip_of lane n i.given ++ skips_from lane (n + 1) is else skips_from lane n is
+
+-- all items of a scenario, in their order
+abbrev pub items_in : List Phase → List Item
+items_in ps = flat_map (λ p. p.items) ps
+
+-- by lane and then by item
+abbrev pub skips_of : Scenario → List Skip
+skips_of s = flat_map (λ lane. skips_from lane 1 (items_in s.phases)) (one_to s.lanes)
+
+-- how many packets a lane has: its items whose head is accepted
+abbrev pub packets_in : Scenario → ℕ → ℕ
+packets_in s lane = length (packets_from lane 1 (items_in s.phases))
+
+-- the limits of a scenario, with the packets of each lane
+abbrev pub run_limits : Scenario → Limits
+run_limits s = record s.limits { packets = map (packets_in s) (one_to s.lanes) }
