@@ -8,5 +8,6 @@ pub mod Text
 pub mod Endings
 pub mod Laws
 pub mod Journals
+pub mod Skipping
 pub mod Machines
 pub mod Statuses

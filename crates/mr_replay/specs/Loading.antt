@@ -1,5 +1,5 @@
 -- What is loaded of a scenario: its skips, and how many packets each lane has.
-use Rattle.std.specs.Prelude.{ℕ, ◌+◌, ◌==◌, zero, suc, if◌then◌else◌, Option, Some, None, List, [], ◌∷◌, ◌++◌, length, map, flat_map}
+use Rattle.std.specs.Prelude.{ℕ, ◌+◌, ◌==◌, zero, suc, if◌then◌else◌, Option, Some, None, option_map, option_to_list, List, [], ◌∷◌, ◌++◌, length, map, flat_map}
 use Rattle.mr_base.specs.Heads.{cause_of}
 use Rattle.mr_base.specs.declared.head_error.HeadError.{HeadError}
 use Rattle.mr_base.specs.declared.head_error.HeadError.TheVariants as head_error
@@ -32,13 +32,12 @@ cause_number head_error.NotMulticast = 6
 cause_number head_error.LinkLocal = 7
 cause_number head_error.BadSource = 8
 
-abbrev pub skip_by : ℕ → ℕ → Option HeadError → List Skip
-skip_by lane n None = []
-skip_by lane n (Some e) = record { lane = record { 0 = lane }; index = n; cause = cause_number e } ∷ []
+abbrev pub skip_by : ℕ → ℕ → HeadError → Skip
+skip_by lane n e = record { lane = record { 0 = lane }; index = n; cause = cause_number e }
 
 -- item number n of a lane as a skip; none where its head is accepted. Traces are not read yet.
 abbrev pub skip_of : ℕ → ℕ → Given → List Skip
-skip_of lane n (Bytes bs) = skip_by lane n (cause_of bs)
+skip_of lane n (Bytes bs) = option_to_list (option_map (skip_by lane n) (cause_of bs))
 skip_of lane n (Trace file) = []
 
 -- the skips of a lane among items, of which the lane's first has number n
@@ -47,6 +46,15 @@ skips_from lane n [] = []
 skips_from lane n (i ∷ is) =
     if i.lane.0 == lane then skip_of lane n i.given ++ skips_from lane (n + 1) is else skips_from lane n is
 
+-- the device of a skip, for each skip of a lane among items
+abbrev pub skip_dev : ℕ → Given → List ℕ
+skip_dev dev (Bytes bs) = option_to_list (option_map (λ e. dev) (cause_of bs))
+skip_dev dev (Trace file) = []
+
+abbrev pub skip_devs_in : ℕ → List Item → List ℕ
+skip_devs_in lane [] = []
+skip_devs_in lane (i ∷ is) = if i.lane.0 == lane then skip_dev i.dev i.given ++ skip_devs_in lane is else skip_devs_in lane is
+
 -- all items of a scenario, in their order
 abbrev pub items_in : List Phase → List Item
 items_in ps = flat_map (λ p. p.items) ps
@@ -54,6 +62,10 @@ items_in ps = flat_map (λ p. p.items) ps
 -- by lane and then by item
 abbrev pub skips_of : Scenario → List Skip
 skips_of s = flat_map (λ lane. skips_from lane 1 (items_in s.phases)) (one_to s.lanes)
+
+-- the device of each skip's item, in the order of the skips
+abbrev pub skip_devs_of : Scenario → List ℕ
+skip_devs_of s = flat_map (λ lane. skip_devs_in lane (items_in s.phases)) (one_to s.lanes)
 
 -- how many packets a lane has: its items whose head is accepted
 abbrev pub packets_in : Scenario → ℕ → ℕ

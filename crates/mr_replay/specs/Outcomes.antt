@@ -38,7 +38,7 @@ ran (Err line) = Err (status.NotBuilt line)
 -- The scenario that bytes spell, as far as its lines can be run: a bad line comes first, then one whose form is not built,
 -- then want of room for the daemons' lines.
 abbrev pub loaded : List ℕ → Result Scenario Status
-loaded bytes = accepted (spelled bytes) >>= λ s. if_built (first_unbuilt bytes) s >>= if_room
+loaded bytes = accepted (spelled bytes) >>= λ s. if_built (first_unbuilt bytes s) s >>= if_room
 
 abbrev pub outcome_of : List ℕ → Result (List Entry) Status
 outcome_of bytes = loaded bytes >>= λ s. ran (played s)

@@ -4,6 +4,8 @@
 mod halt;
 mod journal;
 mod machine;
+mod skips;
 mod status;
+mod unbuilt;
 
 pub use status::Status;
