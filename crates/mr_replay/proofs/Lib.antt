@@ -1,1 +1,3 @@
 pub mod Skipped
+pub mod Counting
+pub mod AllBytes

@@ -9,5 +9,6 @@ pub mod Endings
 pub mod Laws
 pub mod Journals
 pub mod Skipping
+pub mod Loads
 pub mod Machines
 pub mod Statuses

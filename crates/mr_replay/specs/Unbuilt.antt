@@ -1,7 +1,7 @@
 -- The lines of a scenario whose form is not built yet: smcroute daemons, traces, and all operations but `init`, `addvif` and
 -- `addmfc`.
-use Rattle.std.specs.Prelude.{ℕ, min, Bool, true, false, if◌then◌else◌, Option, Some, None, List, [], ◌∷◌, flat_map, bytes_eq, codes}
-use Rattle.std.specs.List.{list_any}
+use Rattle.std.specs.Prelude.{◌≡◌, ℕ, min, Bool, true, false, if◌then◌else◌, Option, Some, None, List, [], ◌∷◌, flat_map, bytes_eq, codes}
+use Rattle.std.specs.List.{list_any, AllByRecursion}
 use Rattle.mr_model.specs.declared.request.Request.{Request}
 use Rattle.mr_model.specs.declared.request.Request.TheVariants as request
 use Rattle.mr_scenario.specs.PhaseLines.{is_smc}
@@ -74,3 +74,7 @@ or_else (Some n) o = Some n
 -- The first line whose form is not built; head lines stand before phases.
 abbrev pub first_unbuilt : List ℕ → Scenario → Option ℕ
 first_unbuilt bytes s = or_else (smc_line bytes s) (least_in None s.phases)
+
+-- no item is a trace
+abbrev pub AllBytes : List Phase → Type 0
+AllBytes ps = AllByRecursion (λ p. AllByRecursion (λ i. is_trace i.given ≡ false) p.items) ps

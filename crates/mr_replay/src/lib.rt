@@ -3,6 +3,7 @@
 
 mod halt;
 mod journal;
+mod loading;
 mod machine;
 mod skips;
 mod status;

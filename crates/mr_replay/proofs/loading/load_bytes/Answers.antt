@@ -1,0 +1,6 @@
+use Rattle.std.proofs.Common.{sym, ◌∙◌}
+use Rattle.mr_replay.proofs.AllBytes.{none_unbuilt}
+use Rattle.mr_replay.proofs.loading.load_bytes.Goals as goal
+
+pub with_items-requires-clause-bytes : goal.with_items-requires-clause-bytes
+with_items-requires-clause-bytes c = none_unbuilt _ c.in-Ok.scenario.phases ?

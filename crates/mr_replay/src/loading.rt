@@ -1,0 +1,149 @@
+//! A scenario is loaded: read, and its items told apart into packets and skips.
+
+ghost use Rattle.std.specs.Prelude.{◌≡◌, ◌≤◌, ◌+◌, ◌++◌, ◌∷◌, [], length, map, nat_le, sum_by, IfOk, OnOk};
+ghost use Rattle.mr_replay.specs.Loading.{items_in, run_limits, packets_in, one_to, skips_from, skip_devs_in};
+ghost use Rattle.mr_replay.specs.Loads.{IsLoaded, Gives, PassesLanes};
+ghost use Rattle.mr_replay.specs.Made.{packets_from};
+ghost use Rattle.mr_replay.specs.Outcomes.{controls_due, loaded};
+ghost use Rattle.mr_replay.specs.Unbuilt.{AllBytes};
+ghost use Rattle.mr_scenario.specs.Fits.{Fits};
+
+use crate::skips::{Passed, pass_phases};
+use crate::status::Status;
+use crate::unbuilt::{first_unbuilt, lines_of, phases_of};
+use mr_base::List;
+use mr_lines::Skip;
+use mr_model::Limits;
+use mr_scenario::{Phase, Scenario, ScenarioError};
+use std::alloc::{AllocError, Global};
+
+/// A scenario that can be run.
+#[derive(Debug, Drop)]
+pub struct Loaded {
+    pub scenario: Scenario,
+    /// The scenario's limits, with the number of packets of each lane.
+    pub limits: Limits,
+    /// The items whose head is refused, by lane and then by item.
+    pub skips: List<Skip>,
+    /// The device of each skip's item.
+    pub skip_devs: List<u32>,
+}
+
+/// Whether the lines of all daemons are at most so many.
+fn has_room(phases: &[Phase], most: u32) -> bool
+    ensures { result ≡ nat_le (sum_by (λ p. length p.script) phases.now) most }
+{
+    let mut left = most as usize;
+    for phase in phases {
+        let lines = lines_of(phase).len();
+        if lines > left {
+            return false;
+        }
+        left -= lines;
+    }
+    true
+}
+
+/// The items of one lane more.
+fn pass_lane(
+    passed: &mut Passed,
+    counts: &mut Vec<u32>,
+    lane: u32,
+    phases: &[Phase],
+) -> Result<(), AllocError>
+    requires { length (items_in phases.now) ≤ 1048576 }
+    ensures skips { OnOk result (passed.new.skips.items ≡ passed.old.skips.items ++ skips_from lane 1 (items_in phases.now)) }
+    ensures devs { OnOk result (passed.new.devs.items ≡ passed.old.devs.items ++ skip_devs_in lane (items_in phases.now)) }
+    ensures counts { OnOk result (counts.new.items ≡ counts.old.items ++ length (packets_from lane 1 (items_in phases.now)) ∷ []) }
+{
+    passed.next = 1;
+    passed.packets = 0;
+    pass_phases(passed, lane, phases)?;
+    counts.push(passed.packets)?;
+    Ok(())
+}
+
+/// The items of so many lanes: what they give, and how many packets each lane has.
+fn pass_lanes(
+    alloc: Global,
+    lanes: u32,
+    phases: &[Phase],
+) -> Result<(Passed, Vec<u32>), AllocError>
+    requires few { lanes ≤ 16 }
+    requires items { length (items_in phases.now) ≤ 1048576 }
+    ensures { IfOk result (λ r. PassesLanes lanes phases.now r.0 r.1.items) }
+{
+    let mut passed = Passed {
+        skips: Vec::new(alloc),
+        devs: Vec::new(alloc),
+        next: 1,
+        packets: 0,
+    };
+    let mut counts = Vec::with_capacity(alloc, lanes as usize)?;
+    for i in 0..lanes {
+        pass_lane(&mut passed, &mut counts, i + 1, phases)?;
+    }
+    Ok((passed, counts))
+}
+
+/// The limits of a scenario whose lanes have these numbers of packets.
+fn limits_with(limits: &Limits, packets: Vec<u32>) -> Result<Limits, AllocError>
+    ensures { IfOk result (λ l. l ≡ record limits.now { packets = packets.items }) }
+{
+    Ok(Limits {
+        entries: limits.entries,
+        unresolved: limits.unresolved,
+        controls: limits.controls,
+        phases: limits.phases,
+        packets: List(packets),
+        admins: limits.admins.clone()?,
+        devices: limits.devices.clone()?,
+    })
+}
+
+/// The scenario's limits.
+fn limits_of(scenario: &Scenario) -> &Limits
+    ensures { result.now ≡ scenario.now.limits }
+{
+    &scenario.limits
+}
+
+/// A scenario with what its items give.
+fn with_items(alloc: Global, scenario: Scenario) -> Result<Loaded, AllocError>
+    requires fits { Fits scenario }
+    requires bytes { AllBytes scenario.phases }
+    requires room { controls_due scenario ≤ scenario.limits.controls }
+    ensures scenario { IfOk result (λ l. l.scenario ≡ scenario) }
+    ensures loaded { IfOk result IsLoaded }
+{
+    let (passed, counts) = pass_lanes(alloc, scenario.lanes, phases_of(&scenario))?;
+    let limits = limits_with(limits_of(&scenario), counts)?;
+    Ok(Loaded {
+        scenario,
+        limits,
+        skips: List(passed.skips),
+        skip_devs: List(passed.devs),
+    })
+}
+
+/// The scenario that bytes spell, if it can be run.
+pub fn load_bytes(alloc: Global, bytes: &[u8]) -> Result<Loaded, Status>
+    ensures scenario { Gives (λ l. l.scenario) result (loaded bytes.now) }
+    ensures loaded { IfOk result IsLoaded }
+{
+    let scenario = match mr_scenario::read(alloc, bytes) {
+        Ok(scenario) => scenario,
+        Err(ScenarioError::Bad { line, kind }) => return Err(Status::Scenario { line, kind }),
+        Err(ScenarioError::Memory) => return Err(Status::Memory),
+    };
+    if let Some(line) = first_unbuilt(bytes, &scenario) {
+        return Err(Status::NotBuilt { line });
+    }
+    if !has_room(phases_of(&scenario), scenario.limits.controls) {
+        return Err(Status::ControlFull);
+    }
+    match with_items(alloc, scenario) {
+        Ok(loaded) => Ok(loaded),
+        Err(_) => Err(Status::Memory),
+    }
+}
