@@ -1,1 +1,5 @@
-
+pub mod LawBinds
+pub mod LawFates
+pub mod LawLines
+pub mod LawLooks
+pub mod LawSame

@@ -3,7 +3,9 @@
 
 mod halt;
 mod journal;
+mod laws;
 mod machine;
 mod status;
 
+pub use laws::{built_fates, played_is_legal};
 pub use status::Status;
