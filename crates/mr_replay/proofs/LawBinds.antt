@@ -18,3 +18,11 @@ passed false x y d e = absurd (cc)
 pub let_through : {A E : Type 0} (test : Bool) (r : Result A E) (y : A) (d : E) → (if test then r else Err d) ≡ Ok y → r ≡ Ok y
 let_through true r y d e = e
 let_through false r y d e = absurd (cc)
+
+pub at_true : {A : Type 0} (test : Bool) (x y z : A) → test ≡ true → (if test then x else y) ≡ z → x ≡ z
+at_true true x y z e p = p
+at_true false x y z e p = absurd (cc)
+
+pub at_false : {A : Type 0} (test : Bool) (x y z : A) → test ≡ false → (if test then x else y) ≡ z → y ≡ z
+at_false true x y z e p = absurd (cc)
+at_false false x y z e p = p

@@ -1,5 +1,7 @@
 pub mod LawBinds
+pub mod LawDaemons
 pub mod LawFates
+pub mod LawItems
 pub mod LawLines
 pub mod LawLooks
 pub mod LawSame
