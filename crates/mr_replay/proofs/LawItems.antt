@@ -49,19 +49,19 @@ lane_is lane l e =
     ap (λ (k : ℕ). lane_no k) number
 
 -- an item of another lane is left out, and one of the lane stands in front
-left_packets : (lane n : ℕ) (i : Item) (is : List Item) → (i.lane.0 == lane) ≡ false → packets_from lane n (i ∷ is) ≡ packets_from lane n is
+pub left_packets : (lane n : ℕ) (i : Item) (is : List Item) → (i.lane.0 == lane) ≡ false → packets_from lane n (i ∷ is) ≡ packets_from lane n is
 left_packets lane n i is e = rw e refl
 
-first_packets : (lane n : ℕ) (i : Item) (is : List Item) → (i.lane.0 == lane) ≡ true → packets_from lane n (i ∷ is) ≡ packet_of n i.dev i.given ++ packets_from lane (n + 1) is
+pub first_packets : (lane n : ℕ) (i : Item) (is : List Item) → (i.lane.0 == lane) ≡ true → packets_from lane n (i ∷ is) ≡ packet_of n i.dev i.given ++ packets_from lane (n + 1) is
 first_packets lane n i is e = rw e refl
 
-left_items : (lane : ℕ) (i : Item) (is : List Item) → (i.lane.0 == lane) ≡ false → items_of lane (i ∷ is) ≡ items_of lane is
+pub left_items : (lane : ℕ) (i : Item) (is : List Item) → (i.lane.0 == lane) ≡ false → items_of lane (i ∷ is) ≡ items_of lane is
 left_items lane i is e =
     let all : items_of lane (i ∷ is) ≡ (if i.lane.0 == lane then 1 else 0) + items_of lane is = sum_by-cons (λ x. if x.lane.0 == lane then 1 else 0) i is in
     let first : ◌≡◌ {A = ℕ} (if i.lane.0 == lane then 1 else 0) 0 = rw e refl in
     omega (arith, all, first)
 
-first_items : (lane : ℕ) (i : Item) (is : List Item) → (i.lane.0 == lane) ≡ true → items_of lane (i ∷ is) ≡ items_of lane is + 1
+pub first_items : (lane : ℕ) (i : Item) (is : List Item) → (i.lane.0 == lane) ≡ true → items_of lane (i ∷ is) ≡ items_of lane is + 1
 first_items lane i is e =
     let all : items_of lane (i ∷ is) ≡ (if i.lane.0 == lane then 1 else 0) + items_of lane is = sum_by-cons (λ x. if x.lane.0 == lane then 1 else 0) i is in
     let first : ◌≡◌ {A = ℕ} (if i.lane.0 == lane then 1 else 0) 1 = rw e refl in

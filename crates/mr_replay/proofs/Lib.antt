@@ -4,4 +4,5 @@ pub mod LawFates
 pub mod LawItems
 pub mod LawLines
 pub mod LawLooks
+pub mod LawPackets
 pub mod LawSame
