@@ -2,6 +2,8 @@ pub mod LawBinds
 pub mod LawDaemons
 pub mod LawFates
 pub mod LawItems
+pub mod LawLanes
+pub mod LawLimits
 pub mod LawLines
 pub mod LawLooks
 pub mod LawPackets
