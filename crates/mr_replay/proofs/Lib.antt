@@ -7,4 +7,5 @@ pub mod LawLimits
 pub mod LawLines
 pub mod LawLooks
 pub mod LawPackets
+pub mod LawPhases
 pub mod LawSame
