@@ -1,9 +1,9 @@
 -- What the items of a lane add to a legal history.
-use Rattle.std.proofs.Common.{◌≡◌, ℕ, ◌+◌, ◌==◌, ◌≤◌, ◌<◌, Bool, true, false, Ok, None, Result, List, [], ◌∷◌, ◌++◌, length, ◌⊎◌, inl, inr, refl, sym, ap, ◌∙◌, arith, subst}
+use Rattle.std.proofs.Common.{◌≡◌, ℕ, ◌+◌, ◌==◌, ◌≤◌, ◌<◌, Bool, true, false, Ok, List, [], ◌∷◌, ◌++◌, length, ◌⊎◌, inl, inr, refl, sym, ap, ◌∙◌, arith, subst}
 use Rattle.std.proofs.Math.Seq.{append_snoc}
 use Rattle.std.proofs.lemmas.List.{append-nil, length-append}
 use Rattle.std.proofs.lemmas.List.Sums.{sum_by-cons}
-use Rattle.std.specs.List.{AllByRecursion, list_any}
+use Rattle.std.specs.List.{list_any}
 use Rattle.std.specs.Prelude.{is_none, if◌then◌else◌}
 use Rattle.mr_base.specs.Heads.{cause_of}
 use Rattle.mr_base.specs.declared.numbers.LaneNo.{LaneNo}
@@ -258,7 +258,7 @@ bytes_add limits h line l lane n dev bs g its accepted e =
       flow = flow;
       gives = rw accepted refl;
       splits = forward_splits h line l n flow o g (at_true (is_none (cause_of bs)) (with_outcome h line l n flow o) (Ok h) (Ok g) accepted e)
-      ∙ ap (λ (x : LaneNo). h ++ Slow x n (length h) flow o ∷ []) its;
+          ∙ ap (λ (x : LaneNo). h ++ Slow x n (length h) flow o ∷ []) its;
     }
 
 bytes_none : (limits : Limits) (h : List Entry) (line : ℕ) (l : LaneNo) (n dev : ℕ) (bs : List ℕ) (g : List Entry) → is_none (cause_of bs) ≡ false

@@ -1,11 +1,11 @@
 -- What the limits of a run give its lanes.
-use Rattle.std.proofs.Common.{◌≡◌, ℕ, zero, suc, ◌+◌, ◌-◌, ◌≤◌, ◌<◌, List, [], ◌∷◌, ◌++◌, length, map, refl, sym, ap, ◌∙◌, arith, subst}
+use Rattle.std.proofs.Common.{◌≡◌, ℕ, zero, suc, ◌+◌, ◌-◌, ◌≤◌, ◌<◌, List, length, map, refl, ap, ◌∙◌, arith}
 use Rattle.std.specs.Prelude.{slice_index}
 use Rattle.mr_model.specs.declared.limits.Limits.{Limits}
 use Rattle.mr_model.specs.Legal.{IsLane, packets_given}
 use Rattle.mr_scenario.specs.declared.scenario.Item.{Item}
 use Rattle.mr_scenario.specs.declared.scenario.Scenario.{Scenario}
-use Rattle.mr_replay.specs.Loading.{from_on, one_to, items_in, packets_in, run_limits}
+use Rattle.mr_replay.specs.Loading.{from_on, items_in, packets_in, run_limits}
 use Rattle.mr_replay.specs.Made.{packets_from}
 use Rattle.mr_replay.proofs.LawSame.{lane_no}
 

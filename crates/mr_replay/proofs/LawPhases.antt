@@ -1,5 +1,5 @@
 -- What the phases of a scenario add to a legal history.
-use Rattle.std.proofs.Common.{◌≡◌, ℕ, ◌+◌, ◌≤◌, ◌<◌, Ok, List, [], ◌∷◌, ◌++◌, length, map, refl, sym, ap, ◌∙◌, arith, append_assoc, subst}
+use Rattle.std.proofs.Common.{◌≡◌, ℕ, ◌+◌, ◌≤◌, Ok, List, [], ◌∷◌, ◌++◌, length, refl, sym, ap, ◌∙◌, arith, append_assoc, subst}
 use Rattle.std.proofs.Math.Seq.{append_snoc}
 use Rattle.std.proofs.lemmas.Grind.{flat_map-append}
 use Rattle.std.proofs.lemmas.List.{append-nil, length-append, length-map}
@@ -7,12 +7,11 @@ use Rattle.std.proofs.lemmas.List.Folds.{list_any-append}
 use Rattle.std.proofs.lemmas.List.Sums.{sum_by-cons}
 use Rattle.std.specs.List.{AllByRecursion}
 use Rattle.std.specs.Prelude.{sum_by}
-use Rattle.mr_base.specs.declared.numbers.LaneNo.{LaneNo}
 use Rattle.mr_model.specs.declared.entry.Entry.{Entry}
 use Rattle.mr_model.specs.declared.entry.Entry.TheVariants.{EndPhase}
 use Rattle.mr_model.specs.declared.limits.Limits.{Limits}
-use Rattle.mr_model.specs.Legal.{IsDaemon, IsLegal, packets_given}
-use Rattle.mr_model.specs.Past.{controls, phases, packets, last_index, last_look, is_end}
+use Rattle.mr_model.specs.Legal.{IsDaemon, IsLegal}
+use Rattle.mr_model.specs.Past.{controls, phases, is_end}
 use Rattle.mr_model.proofs.Pushing.{legal_push}
 use Rattle.mr_model.proofs.PushingLists.{controls_push, phases_push, packets_push, last_index_push, last_look_push}
 use Rattle.mr_scenario.specs.declared.scenario.Item.{Item}
@@ -25,13 +24,12 @@ use Rattle.mr_scenario.specs.Spelled.{is_admin_kind}
 use Rattle.mr_scenario.proofs.Each.{all_weaker}
 use Rattle.mr_replay.specs.Laws.{PlayedIsLegal}
 use Rattle.mr_replay.specs.Loading.{one_to, items_in, run_limits}
-use Rattle.mr_replay.specs.Made.{PartOf, MadeFrom, Sent, sent_in, sent, asked_in, asked, to_send, to_ask, packets_from, items_of}
-use Rattle.mr_replay.specs.Outcomes.{controls_due}
+use Rattle.mr_replay.specs.Made.{PartOf, MadeFrom, Sent, sent_in, sent, asked_in, asked, packets_from, items_of}
 use Rattle.mr_replay.specs.Played.{play_daemons, play_lanes, play_phase, play_phases}
 use Rattle.mr_words.specs.Binds.{◌>>=◌}
 use Rattle.mr_replay.proofs.LawBinds.{bind_ok, same_ok}
 use Rattle.mr_replay.proofs.LawDaemons.{PlaysDaemons, all_daemons_play}
-use Rattle.mr_replay.proofs.LawLanes.{LaneAt, AllAt, PlaysLanes, at_same, lanes_play}
+use Rattle.mr_replay.proofs.LawLanes.{AllAt, PlaysLanes, at_same, lanes_play}
 use Rattle.mr_replay.proofs.LawLimits.{AllRoom, run_room}
 use Rattle.mr_replay.proofs.LawPackets.{packets_append}
 use Rattle.mr_replay.proofs.LawSame.{lane_no, Same, longer}
