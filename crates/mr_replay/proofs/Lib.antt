@@ -1,3 +1,14 @@
 pub mod Skipped
 pub mod Counting
 pub mod AllBytes
+pub mod LawBinds
+pub mod LawLooks
+pub mod LawSame
+pub mod LawLines
+pub mod LawDaemons
+pub mod LawItems
+pub mod LawPackets
+pub mod LawLimits
+pub mod LawLanes
+pub mod LawPhases
+pub mod LawFates

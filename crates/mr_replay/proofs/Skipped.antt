@@ -1,7 +1,7 @@
 -- Items behind others: their skips and packets stand behind those of the others.
 use Rattle.std.proofs.Common.{◌≡◌, ◌≤◌, ℕ, ◌+◌, ◌==◌, Bool, true, false, Option, Some, None, List, [], ◌∷◌, ◌++◌, ◌<◌, suc, length, drop, get_or, drop-cons, add-one, add-zero, refl, sym, ap, ◌∙◌, arith}
 use Rattle.std.proofs.lemmas.List.{append_assoc, length-append}
-use Rattle.std.proofs.lemmas.List.Sums.{sum_by-cons, sum_by-append}
+use Rattle.std.proofs.lemmas.List.Sums.{sum_by-cons}
 use Rattle.std.specs.Prelude.{if◌then◌else◌, is_none}
 use Rattle.mr_base.specs.Heads.{cause_of}
 use Rattle.mr_lines.specs.declared.skip.Skip.{Skip}
@@ -9,6 +9,7 @@ use Rattle.mr_replay.specs.Loading.{skip_of, skip_dev, skips_from, skip_devs_in,
 use Rattle.mr_replay.specs.Made.{Sent, packet_of, packets_from, items_of}
 use Rattle.mr_replay.specs.Skipping.{Passes, Leaves}
 use Rattle.mr_replay.specs.declared.skips.Passed.{Passed}
+use Rattle.mr_replay.proofs.LawPackets.{packets_append, items_append}
 use Rattle.mr_scenario.specs.declared.scenario.Given.{Given}
 use Rattle.mr_scenario.specs.declared.scenario.Given.TheVariants.{Bytes, Trace}
 use Rattle.mr_scenario.specs.declared.scenario.Item.{Item}
@@ -17,9 +18,6 @@ use Rattle.mr_scenario.specs.declared.scenario.Phase.{Phase}
 -- items of a lane are counted one by one
 items_one : (lane : ℕ) (x : Item) (xs : List Item) → items_of lane (x ∷ xs) ≡ (if x.lane.0 == lane then 1 else 0) + items_of lane xs
 items_one lane x xs = sum_by-cons (λ (i : Item). if i.lane.0 == lane then 1 else 0) x xs
-
-items_append : (lane : ℕ) (xs ys : List Item) → items_of lane (xs ++ ys) ≡ items_of lane xs + items_of lane ys
-items_append lane xs ys = sum_by-append (λ (i : Item). if i.lane.0 == lane then 1 else 0) xs ys
 
 -- what numbered items give, by a test of the first one
 numbered_append : {A : Type 0} (b : Bool) (f : ℕ → List A) (first : List A) (n k : ℕ) (long short long_on short_on : List A)
@@ -37,12 +35,6 @@ skips_append lane n [] ys = rw (add-zero n) refl
 skips_append lane n (x ∷ xs) ys =
     rw (items_one lane x xs)
     (numbered_append (x.lane.0 == lane) (λ m. skips_from lane m ys) (skip_of lane n x.given) n (items_of lane xs) _ _ _ _ (skips_append lane (n + 1) xs ys) (skips_append lane n xs ys))
-
-pub packets_append : (lane n : ℕ) (xs ys : List Item) → packets_from lane n (xs ++ ys) ≡ packets_from lane n xs ++ packets_from lane (n + items_of lane xs) ys
-packets_append lane n [] ys = rw (add-zero n) refl
-packets_append lane n (x ∷ xs) ys =
-    rw (items_one lane x xs)
-    (numbered_append (x.lane.0 == lane) (λ m. packets_from lane m ys) (packet_of n x.dev x.given) n (items_of lane xs) _ _ _ _ (packets_append lane (n + 1) xs ys) (packets_append lane n xs ys))
 
 devs_by : (b : Bool) (first more both rest : List ℕ) → both ≡ rest ++ more → (if b then first ++ both else both) ≡ (if b then first ++ rest else rest) ++ more
 devs_by true first more both rest e = rw e (sym (append_assoc first rest more))

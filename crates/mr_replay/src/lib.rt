@@ -3,10 +3,13 @@
 
 mod halt;
 mod journal;
+mod laws;
 mod loading;
 mod machine;
 mod skips;
 mod status;
 mod unbuilt;
 
+pub use laws::{built_fates, played_is_legal};
+pub use loading::Loaded;
 pub use status::Status;
