@@ -43,7 +43,7 @@ in_none (p ∷ ps) o e =
     let rest = in_none ps (least_with o p) e in
     let script = least_none (flat_map unbuilt_script p.script) (least_from o (flat_map unbuilt_item p.items)) rest.0 in
     let items = least_none (flat_map unbuilt_item p.items) o script.0 in
-    (items.0, items_bytes p.items items.1, rest.1)
+    (items.0, (items_bytes p.items items.1, rest.1))
 
 else_none : (a b : Option ℕ) → or_else a b ≡ None → b ≡ None
 else_none None b e = e
