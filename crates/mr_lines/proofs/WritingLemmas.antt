@@ -51,7 +51,7 @@ rising (suc k) i = i ∷ rising k (i + 1)
 abbrev pub vifs_from : ℕ → List ℕ
 vifs_from i = rising (32 - i) i
 
-vifs_on : (i : ℕ) → i < 32 → vifs_from i ≡ i ∷ vifs_from (i + 1)
+pub vifs_on : (i : ℕ) → i < 32 → vifs_from i ≡ i ∷ vifs_from (i + 1)
 vifs_on i l = ap (λ k. rising k i) (more i l)
   where
     more : (i : ℕ) → i < 32 → 32 - i ≡ suc (32 - (i + 1))
@@ -62,7 +62,7 @@ pub items_step : (outs : Mask) (first f : Bool) (i : ℕ) (o p t : List ℕ) →
 items_step outs first f i o p t l e g h =
     rw (e, g) (append_assoc o _ _ ∙ ap (λ x. o ++ x) (sym (items_on first outs i (vifs_from (i + 1)))) ∙ ap (λ x. o ++ items first outs x) (sym (vifs_on i l)) ∙ h)
 
-none_from : (k i : ℕ) (outs : Mask) → outs.0 < 2 ^ i → filter (is_in outs) (rising k i) ≡ []
+pub none_from : (k i : ℕ) (outs : Mask) → outs.0 < 2 ^ i → filter (is_in outs) (rising k i) ≡ []
 none_from zero i outs l = refl
 none_from (suc k) i outs l =
     let e : outs.0 / 2 ^ i ≡ 0 = div-eq_of_lt l in

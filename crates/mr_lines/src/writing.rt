@@ -11,11 +11,9 @@ use crate::writing_calls::{
     write_fate_words, write_message, write_outcome, write_reply, write_request, write_route_totals,
     write_vif_totals,
 };
-use crate::writing_words::{
-    write_address, write_mask, write_number, write_spaced, write_vif_or_none,
-};
+use crate::writing_words::{write_address, write_number, write_spaced};
 use mr_base::{DaemonNo, LaneNo};
-use mr_model::{FastRecord, FateLine, MessageId, Outcome, ReleasedId, Reply, Request};
+use mr_model::{FateLine, MessageId, Outcome, ReleasedId, Reply, Request};
 use std::alloc::AllocError;
 
 /// Puts `history 1`, the first line.
@@ -139,20 +137,6 @@ pub fn write_settle(
     out.extend_from_slice(b" settle")?;
     write_spaced(out, u64::from(lane.0))?;
     write_spaced(out, count)?;
-    out.extend_from_slice(b"\n")?;
-    Ok(())
-}
-
-/// Puts the line of a packet that was forwarded without the lock.
-pub fn write_record(out: &mut Vec<u8>, packet: &FastRecord) -> Result<(), AllocError>
-    ensures { OnOk result (out.new.items ≡ out.old.items ++ line_bytes (line_words (line.Record packet.now))) }
-{
-    out.extend_from_slice(b"-")?;
-    write_spaced(out, u64::from(packet.index))?;
-    write_spaced(out, u64::from(packet.look))?;
-    write_spaced(out, u64::from(packet.entry))?;
-    write_vif_or_none(out, packet.input)?;
-    write_mask(out, packet.outs)?;
     out.extend_from_slice(b"\n")?;
     Ok(())
 }
