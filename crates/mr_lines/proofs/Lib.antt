@@ -1,2 +1,2 @@
 pub mod WritingLemmas
-pub mod RecordLemmas
+pub mod RowLemmas

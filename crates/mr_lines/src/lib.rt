@@ -4,9 +4,12 @@
 mod line;
 mod skip;
 mod tail;
+#[cfg(test)]
+mod tests_writing;
 mod writing;
 mod writing_calls;
 mod writing_records;
+mod writing_rows;
 mod writing_words;
 
 pub use line::Line;

@@ -1,12 +1,10 @@
 //! Words that are put behind a text.
 
-ghost use Rattle.std.specs.Prelude.{◌≡◌, ◌<◌, ◌++◌, ◌∷◌, [], false, if◌then◌else◌, map, filter, decimal, OnOk, IfOk};
-ghost use Rattle.std.specs.List.{join_with_byte};
-ghost use Rattle.mr_model.specs.Ending.{indexes};
-ghost use Rattle.mr_model.specs.Verdict.{is_in};
+ghost use Rattle.std.specs.Prelude.{◌≡◌, ◌++◌, ◌∷◌, [], decimal, OnOk};
 ghost use Rattle.mr_lines.specs.Forms.{address, mask, vif_or_none, local_word, thresholds};
 ghost use Rattle.mr_lines.specs.Written.{led};
 
+use crate::writing_rows::put_mask;
 use itoa::Buffer;
 use mr_base::{Addr, Mask};
 use mr_model::VifCtl;
@@ -75,56 +73,13 @@ pub fn write_thresholds(out: &mut Vec<u8>, ttls: &[u8; 32]) -> Result<(), AllocE
     Ok(())
 }
 
-/// A vif, behind a comma if it isn't the first one.
-fn write_item(out: &mut Vec<u8>, first: bool, vif: u8) -> Result<(), AllocError>
-    ensures { OnOk result (out.new.items ≡ out.old.items ++ (if first then [] else 44 ∷ []) ++ decimal vif) }
-{
-    if first {
-        write_number(out, u64::from(vif))
-    } else {
-        write_part(out, b',', u32::from(vif))
-    }
-}
-
-/// A vif, if it is in a mask; and whether the next one of the mask is the first.
-fn write_if_in(out: &mut Vec<u8>, first: bool, outs: Mask, vif: u8) -> Result<bool, AllocError>
-    requires { vif < 32 }
-    ensures text { IfOk result (λ f. out.new.items ≡ out.old.items ++ (if is_in outs vif then (if first then [] else 44 ∷ []) ++ decimal vif else [])) }
-    ensures first { IfOk result (λ f. f ≡ (if is_in outs vif then false else first)) }
-{
-    if (outs.0 >> vif) % 2 == 1 {
-        write_item(out, first, vif)?;
-        Ok(false)
-    } else {
-        Ok(first)
-    }
-}
-
-/// The vifs of a mask.
-fn write_items(out: &mut Vec<u8>, outs: Mask) -> Result<(), AllocError>
-    ensures { OnOk result (out.new.items ≡ out.old.items ++ join_with_byte 44 (map decimal (filter (is_in outs) indexes))) }
-{
-    let mut first = true;
-    for vif in 0u8..32 {
-        if outs.0 >> vif == 0 {
-            return Ok(());
-        }
-        first = write_if_in(out, first, outs, vif)?;
-    }
-    Ok(())
-}
-
 /// A space, and the vifs of a mask or `-`.
-#[tactic(auto, unfolding(crate::specs::Forms::mask))]
 pub fn write_mask(out: &mut Vec<u8>, outs: Mask) -> Result<(), AllocError>
     ensures { OnOk result (out.new.items ≡ out.old.items ++ 32 ∷ mask outs) }
 {
-    if outs.0 == 0 {
-        out.extend_from_slice(b" -")?;
-        return Ok(());
-    }
-    out.extend_from_slice(b" ")?;
-    write_items(out, outs)?;
+    let mut row = [0u8; 144];
+    let at = put_mask(&mut row, 144, outs);
+    out.extend_from_slice(&row[at..])?;
     Ok(())
 }
 

@@ -1,6 +1,6 @@
 use Rattle.std.proofs.Common.{◌∷◌, ◌++◌, drop, ap, sym, ◌∙◌, arith}
-use Rattle.mr_lines.proofs.RecordLemmas.{mask_over, mask_is}
-use Rattle.mr_lines.proofs.writing_records.put_mask.Goals as goal
+use Rattle.mr_lines.proofs.RowLemmas.{mask_over, mask_is}
+use Rattle.mr_lines.proofs.writing_rows.put_mask.Goals as goal
 
 pub bounds-row-at : goal.bounds-row-at
 bounds-row-at c =

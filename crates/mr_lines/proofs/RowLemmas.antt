@@ -1,5 +1,5 @@
--- A record's line from its end.
-use Rattle.std.proofs.Common.{◌≡◌, ℕ, Bool, true, false, List, [], ◌∷◌, ◌++◌, map, filter, decimal, length, drop, set, get_or, zero, suc, ◌<◌, ◌≤◌, ◌+◌, ◌-◌, ◌*◌, ◌/◌, ◌%◌, ◌^◌, ◌==◌, arith, refl, sym, ap, ◌∙◌, append_assoc, drop-cons, length-drop}
+-- Texts in an array that grow from their end.
+use Rattle.std.proofs.Common.{◌≡◌, ℕ, Bool, true, false, List, [], ◌∷◌, ◌++◌, map, filter, decimal, length, drop, set, get_or, zero, suc, ◌<◌, ◌≤◌, ◌+◌, ◌-◌, ◌/◌, ◌%◌, ◌^◌, arith, refl, sym, ap, ◌∙◌, append_assoc, drop-cons, length-drop}
 use Rattle.std.proofs.Math.Nat.{div-eq_of_lt, div-one, div-div-eq-div-mul, pow-suc}
 use Rattle.std.proofs.Math.Pow.{pow_mono}
 use Rattle.std.proofs.lemmas.Bool.{eqb-false, ne_eqb}
@@ -11,7 +11,31 @@ use Rattle.mr_base.specs.declared.numbers.Mask.{Mask}
 use Rattle.mr_model.specs.Ending.{indexes}
 use Rattle.mr_model.specs.Verdict.{is_in}
 use Rattle.mr_lines.specs.Forms.{mask}
-use Rattle.mr_lines.proofs.WritingLemmas.{joined, rising, vifs_from, vifs_on, none_from}
+use Rattle.mr_lines.proofs.WritingLemmas.{joined}
+
+-- k numbers from i on
+abbrev pub rising : ℕ → ℕ → List ℕ
+rising zero i = []
+rising (suc k) i = i ∷ rising k (i + 1)
+
+-- the numbers from i to 31
+abbrev pub vifs_from : ℕ → List ℕ
+vifs_from i = rising (32 - i) i
+
+vifs_on : (i : ℕ) → i < 32 → vifs_from i ≡ i ∷ vifs_from (i + 1)
+vifs_on i l = ap (λ k. rising k i) (more i l)
+  where
+    more : (i : ℕ) → i < 32 → 32 - i ≡ suc (32 - (i + 1))
+    more i l = omega arith
+
+-- a mask has no vif where its higher bits are 0
+none_from : (k i : ℕ) (outs : Mask) → outs.0 < 2 ^ i → filter (is_in outs) (rising k i) ≡ []
+none_from zero i outs l = refl
+none_from (suc k) i outs l =
+    let e : outs.0 / 2 ^ i ≡ 0 = div-eq_of_lt l in
+    let m : 2 ^ i ≤ 2 ^ (i + 1) = pow_mono (omega arith) in
+    let n : outs.0 < 2 ^ (i + 1) = omega (arith, l, m) in
+    rw e (none_from k (i + 1) outs n)
 
 -- the vifs of a mask among given ones, each behind a comma
 abbrev pub behind_commas : Mask → List ℕ → List ℕ

@@ -1,6 +1,6 @@
 use Rattle.std.proofs.Common.{◌-◌, arith}
-use Rattle.mr_lines.proofs.RecordLemmas.{items_top, items_down, items_done}
-use Rattle.mr_lines.proofs.writing_records.put_items.Goals as goal
+use Rattle.mr_lines.proofs.RowLemmas.{items_top, items_down, items_done}
+use Rattle.mr_lines.proofs.writing_rows.put_items.Goals as goal
 
 pub loop-vif-init : goal.loop-vif-init
 loop-vif-init c = record {

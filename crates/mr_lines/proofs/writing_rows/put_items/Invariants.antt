@@ -1,7 +1,6 @@
 use Rattle.std.proofs.Common.{◌≡◌, ◌+◌, ◌-◌, ◌*◌, ◌≤◌, ◌++◌, drop}
-use Rattle.mr_lines.proofs.WritingLemmas.{vifs_from}
-use Rattle.mr_lines.proofs.RecordLemmas.{behind_commas}
-use Rattle.mr_lines.proofs.writing_records.put_items.Given as goal
+use Rattle.mr_lines.proofs.RowLemmas.{behind_commas, vifs_from}
+use Rattle.mr_lines.proofs.writing_rows.put_items.Given as goal
 
 -- the vifs from the present one on are put
 abbrev pub invariant-loop-vif : goal.invariant-loop-vif
