@@ -3,5 +3,7 @@
 
 mod history_text;
 mod reading_state;
+mod writing;
 
 pub use history_text::{HistoryText, TextError};
+pub use writing::write_history;
