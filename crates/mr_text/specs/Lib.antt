@@ -1,3 +1,5 @@
 pub mod Text
 pub mod Orders
 pub mod Walk
+pub mod Whole
+pub mod Laws

@@ -7,13 +7,13 @@ use Rattle.mr_lines.specs.declared.line.Line.TheVariants as line
 use Rattle.mr_lines.specs.declared.tail.RouteLine.{RouteLine}
 use Rattle.mr_lines.specs.declared.tail.VifLine.{VifLine}
 use Rattle.mr_lines.specs.declared.skip.Skip.{Skip}
+use Rattle.mr_lines.specs.Fit.{no_flow}
 use Rattle.mr_lines.specs.Reading.{line_of}
 use Rattle.mr_model.specs.declared.ending.FateLine.{FateLine}
 use Rattle.mr_model.specs.declared.entry.Entry.{Entry}
 use Rattle.mr_model.specs.declared.entry.Entry.TheVariants as entry
 use Rattle.mr_model.specs.declared.entry.FastRecord.{FastRecord}
 use Rattle.mr_model.specs.declared.entry.ReleasedId.{ReleasedId}
-use Rattle.mr_model.specs.declared.flow.Flow.{Flow}
 use Rattle.mr_text.specs.declared.history_text.HistoryText.{HistoryText}
 use Rattle.mr_text.specs.declared.reading_state.Current.{Current}
 use Rattle.mr_text.specs.declared.reading_state.Current.TheVariants as current
@@ -31,10 +31,6 @@ is_empty xs = length xs == 0
 -- before the first line
 abbrev pub first_state : State
 first_state = record { begun = false; skips = []; entries = []; lines = []; current = current.Nothing; routes = []; vifs = []; fates = []; ended = false }
-
--- the flow of a packet in a text, where it is not printed
-abbrev pub no_flow : Flow
-no_flow = record { dev = 0; src = record { 0 = 0 }; dst = record { 0 = 0 }; ttl = 0; length = 0 }
 
 abbrev pub with_entry : State → Entry → State
 with_entry s e = record s { entries = s.entries ++ e ∷ []; current = current.Nothing }
