@@ -1,3 +1,7 @@
 pub mod Forms
 pub mod Lines
+pub mod Fit
+pub mod Fields
+pub mod Words
 pub mod Reading
+pub mod Laws
