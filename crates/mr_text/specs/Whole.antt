@@ -29,10 +29,10 @@ EntryFits _ = Unit
 -- The parts that have a text: each line spells what it says, and skips, route lines and vif lines rise.
 pub record PartsFit (skips : List Skip) (entries : List Entry) (tail : Tail) : Type 0 where
   pub lines : AllByRecursion LineFits (text_lines skips entries tail)
-  pub entries : AllByRecursion EntryFits entries
-  pub skips : Rising skip_follows [] skips
-  pub routes : Rising route_follows [] tail.routes
-  pub vifs : Rising vif_follows [] tail.vifs
+  pub each : AllByRecursion EntryFits entries
+  pub skips_rise : Rising skip_follows [] skips
+  pub routes_rise : Rising route_follows [] tail.routes
+  pub vifs_rise : Rising vif_follows [] tail.vifs
 
 -- how many lines an entry has
 abbrev pub line_count : Entry → ℕ
