@@ -1,5 +1,5 @@
 -- What is read is the text of its parts: a line that is taken is the one that the state tells more.
-use Rattle.std.proofs.Common.{◌≡◌, ℕ, zero, suc, ◌+◌, ◌-◌, ◌==◌, ◌&&◌, ◌≤◌, ◌<◌, Bool, true, false, not, Option, Some, None, Result, Ok, Err, List, [], ◌∷◌, ◌++◌, length, map, refl, sym, ap, ◌∙◌, subst, arith, add-one, add-zero, append-nil, append_assoc, length-append}
+use Rattle.std.proofs.Common.{◌≡◌, ℕ, zero, suc, ◌+◌, ◌-◌, ◌==◌, ◌&&◌, ◌≤◌, ◌<◌, Bool, true, false, not, Option, Some, None, Result, Ok, Err, List, [], ◌∷◌, ◌++◌, length, map, refl, sym, ap, ◌∙◌, subst, arith, add-one, add-zero, zero-add, lit≤, append-nil, append_assoc, length-append}
 use Rattle.std.specs.Prelude.{nat_lt, option_and_then}
 use Rattle.std.specs.List.{AllByRecursion}
 use Rattle.std.proofs.lemmas.Bool.{and_parts}
@@ -7,6 +7,10 @@ use Rattle.std.proofs.lemmas.List.{length-map, map-append}
 use Rattle.mr_lines.specs.declared.line.Line.{Line}
 use Rattle.mr_lines.specs.declared.line.Line.TheVariants as line
 use Rattle.mr_lines.specs.declared.skip.Skip.{Skip}
+use Rattle.mr_lines.specs.declared.tail.RouteLine.{RouteLine}
+use Rattle.mr_lines.specs.declared.tail.VifLine.{VifLine}
+use Rattle.mr_lines.specs.Fit.{no_flow}
+use Rattle.mr_model.specs.declared.ending.FateLine.{FateLine}
 use Rattle.mr_model.specs.declared.entry.Entry.{Entry}
 use Rattle.mr_model.specs.declared.entry.Entry.TheVariants as entry
 use Rattle.mr_model.specs.declared.entry.FastRecord.{FastRecord}
@@ -282,3 +286,168 @@ records_told s f (current.Settle lane records left) t is k gives =
     subst (λ t. Takes s (line.Record f) t) may.1
       (grows s (current.Settle lane records left) u (entry.Settle lane records) (entry.Settle lane (records ++ f ∷ [])) (line.Record f) is k (subst (OpenIn s) is k.open_in)
         tt (λ q n. n) refl refl (λ i. ap (λ c. line.Settle i lane c ∷ map line.Record (records ++ f ∷ [])) same ∙ ap (λ l. line.Settle i lane (length records + left) ∷ l) (map-append line.Record records (f ∷ []))))
+
+routes_told : (q : State) (r : RouteLine) (t : State) → Sound q → q.current ≡ current.Nothing → with_route r q ≡ Some t → Takes q (line.Route r) t
+routes_told q r t k none gives =
+    let u : State = record q { routes = q.routes ++ r ∷ [] } in
+    let may : ((is_inside q && is_empty q.vifs && is_empty q.fates && route_follows q.routes r) ≡ true) × (u ≡ t) = when_some (is_inside q && is_empty q.vifs && is_empty q.fates && route_follows q.routes r) u t gives in
+    let last : ((is_inside q && is_empty q.vifs && is_empty q.fates) ≡ true) × (route_follows q.routes r ≡ true) = and_parts (is_inside q && is_empty q.vifs && is_empty q.fates) (route_follows q.routes r) may.0 in
+    let more : ((is_inside q && is_empty q.vifs) ≡ true) × (is_empty q.fates ≡ true) = and_parts (is_inside q && is_empty q.vifs) (is_empty q.fates) last.0 in
+    let first : (is_inside q ≡ true) × (is_empty q.vifs ≡ true) = and_parts (is_inside q) (is_empty q.vifs) more.0 in
+    let n : (q.begun ≡ true) × (q.ended ≡ false) = inside_parts q first.0 in
+    subst (λ t. Takes q (line.Route r) t) may.1 (
+      record {
+      fresh = λ b. absurd (not_both q.begun n.0 b);
+      open_in = none_open (u) q.current none;
+      firsts = k.firsts;
+      each = k.each;
+      current_fits = k.current_fits;
+      skips_rise = k.skips_rise;
+      routes_rise = rising_push route_follows [] q.routes r k.routes_rise last.1;
+      vifs_rise = k.vifs_rise;
+    },
+      ap (λ l. joined (begin_line q.begun) (map line.Skip q.skips) (entries_lines 1 q.entries) (current_lines (length q.entries + 1) q.current) l (map line.Vif q.vifs)(map line.Fate q.fates)(end_line q.ended)) (map-append line.Route q.routes (r ∷ []))
+      ∙ push_e (begin_line q.begun) (map line.Skip q.skips) (entries_lines 1 q.entries) (current_lines (length q.entries + 1) q.current)(map line.Route q.routes)(map line.Vif q.vifs)(map line.Fate q.fates)(end_line q.ended) (line.Route r ∷ []) (ap (map line.Vif) (empty_nil q.vifs first.1)) (ap (map line.Fate) (empty_nil q.fates more.1)) (ap end_line n.1),
+    )
+
+vifs_told : (q : State) (v : VifLine) (t : State) → Sound q → q.current ≡ current.Nothing → with_vif v q ≡ Some t → Takes q (line.Vif v) t
+vifs_told q v t k none gives =
+    let u : State = record q { vifs = q.vifs ++ v ∷ [] } in
+    let may : ((is_inside q && is_empty q.fates && vif_follows q.vifs v) ≡ true) × (u ≡ t) = when_some (is_inside q && is_empty q.fates && vif_follows q.vifs v) u t gives in
+    let last : ((is_inside q && is_empty q.fates) ≡ true) × (vif_follows q.vifs v ≡ true) = and_parts (is_inside q && is_empty q.fates) (vif_follows q.vifs v) may.0 in
+    let first : (is_inside q ≡ true) × (is_empty q.fates ≡ true) = and_parts (is_inside q) (is_empty q.fates) last.0 in
+    let n : (q.begun ≡ true) × (q.ended ≡ false) = inside_parts q first.0 in
+    subst (λ t. Takes q (line.Vif v) t) may.1 (
+      record {
+      fresh = λ b. absurd (not_both q.begun n.0 b);
+      open_in = none_open (u) q.current none;
+      firsts = k.firsts;
+      each = k.each;
+      current_fits = k.current_fits;
+      skips_rise = k.skips_rise;
+      routes_rise = k.routes_rise;
+      vifs_rise = rising_push vif_follows [] q.vifs v k.vifs_rise last.1;
+    },
+      ap (λ l. joined (begin_line q.begun) (map line.Skip q.skips) (entries_lines 1 q.entries) (current_lines (length q.entries + 1) q.current)(map line.Route q.routes) l (map line.Fate q.fates)(end_line q.ended)) (map-append line.Vif q.vifs (v ∷ []))
+      ∙ push_f (begin_line q.begun) (map line.Skip q.skips) (entries_lines 1 q.entries) (current_lines (length q.entries + 1) q.current)(map line.Route q.routes)(map line.Vif q.vifs)(map line.Fate q.fates)(end_line q.ended) (line.Vif v ∷ []) (ap (map line.Fate) (empty_nil q.fates first.1)) (ap end_line n.1),
+    )
+
+fates_told : (q : State) (f : FateLine) (t : State) → Sound q → q.current ≡ current.Nothing → with_fate f q ≡ Some t → Takes q (line.Fate f) t
+fates_told q f t k none gives =
+    let u : State = record q { fates = q.fates ++ f ∷ [] } in
+    let may : (is_inside q ≡ true) × (u ≡ t) = when_some (is_inside q) u t gives in
+    let n : (q.begun ≡ true) × (q.ended ≡ false) = inside_parts q may.0 in
+    subst (λ t. Takes q (line.Fate f) t) may.1 (
+      record {
+      fresh = λ b. absurd (not_both q.begun n.0 b);
+      open_in = none_open (u) q.current none;
+      firsts = k.firsts;
+      each = k.each;
+      current_fits = k.current_fits;
+      skips_rise = k.skips_rise;
+      routes_rise = k.routes_rise;
+      vifs_rise = k.vifs_rise;
+    },
+      ap (λ l. joined (begin_line q.begun) (map line.Skip q.skips) (entries_lines 1 q.entries) (current_lines (length q.entries + 1) q.current)(map line.Route q.routes)(map line.Vif q.vifs) l (end_line q.ended)) (map-append line.Fate q.fates (f ∷ []))
+      ∙ push_g (begin_line q.begun) (map line.Skip q.skips) (entries_lines 1 q.entries) (current_lines (length q.entries + 1) q.current)(map line.Route q.routes)(map line.Vif q.vifs)(map line.Fate q.fates)(end_line q.ended) (line.Fate f ∷ []) (ap end_line n.1),
+    )
+
+end_told : (q : State) (t : State) → Sound q → q.current ≡ current.Nothing → with_end q ≡ Some t → Takes q line.End t
+end_told q t k none gives =
+    let u : State = record q { ended = true } in
+    let may : (is_inside q ≡ true) × (u ≡ t) = when_some (is_inside q) u t gives in
+    let n : (q.begun ≡ true) × (q.ended ≡ false) = inside_parts q may.0 in
+    subst (λ t. Takes q line.End t) may.1 (
+      record {
+      fresh = λ b. absurd (not_both q.begun n.0 b);
+      open_in = none_open (u) q.current none;
+      firsts = k.firsts;
+      each = k.each;
+      current_fits = k.current_fits;
+      skips_rise = k.skips_rise;
+      routes_rise = k.routes_rise;
+      vifs_rise = k.vifs_rise;
+    },
+      push_h (begin_line q.begun) (map line.Skip q.skips) (entries_lines 1 q.entries) (current_lines (length q.entries + 1) q.current)(map line.Route q.routes)(map line.Vif q.vifs)(map line.Fate q.fates) (line.End ∷ [])
+      ∙ ap (λ e. joined (begin_line q.begun) (map line.Skip q.skips) (entries_lines 1 q.entries) (current_lines (length q.entries + 1) q.current)(map line.Route q.routes)(map line.Vif q.vifs)(map line.Fate q.fates) e ++ line.End ∷ []) (ap end_line (sym n.1)),
+    )
+
+-- Where no entry has begun, none stands in the state.
+no_firsts : (m : ℕ) (h : List Entry) → first_lines_from m h ≡ [] → h ≡ []
+no_firsts m [] e = refl
+no_firsts m (x ∷ h) e = absurd (cc e)
+
+append_none : {A : Type 0} (a b : List A) → a ++ b ≡ [] → (a ≡ []) × (b ≡ [])
+append_none [] b e = (refl, e)
+append_none (x ∷ a) b e = absurd (cc e)
+
+none_current : (o : Current) → current_entries o ≡ [] → o ≡ current.Nothing
+none_current current.Nothing e = refl
+none_current (current.Call d r reply released) e = absurd (cc e)
+none_current (current.Settle lane records left) e = absurd (cc e)
+
+skips_told : (q : State) (s : Skip) (t : State) → Sound q → skipped q s ≡ Some t → Takes q (line.Skip s) t
+skips_told q s t k gives =
+    let u : State = record q { skips = q.skips ++ s ∷ [] } in
+    let may : ((is_inside q && is_empty q.lines && has_no_tail q && skip_follows q.skips s) ≡ true) × (u ≡ t) = when_some (is_inside q && is_empty q.lines && has_no_tail q && skip_follows q.skips s) u t gives in
+    let last : ((is_inside q && is_empty q.lines && has_no_tail q) ≡ true) × (skip_follows q.skips s ≡ true) = and_parts (is_inside q && is_empty q.lines && has_no_tail q) (skip_follows q.skips s) may.0 in
+    let more : ((is_inside q && is_empty q.lines) ≡ true) × (has_no_tail q ≡ true) = and_parts (is_inside q && is_empty q.lines) (has_no_tail q) last.0 in
+    let first : (is_inside q ≡ true) × (is_empty q.lines ≡ true) = and_parts (is_inside q) (is_empty q.lines) more.0 in
+    let n : (q.begun ≡ true) × (q.ended ≡ false) = inside_parts q first.0 in
+    let tail : (q.routes ≡ []) × (q.vifs ≡ []) × (q.fates ≡ []) = tail_parts q more.1 in
+    let no_lines : q.lines ≡ [] = empty_nil q.lines first.1 in
+    let nothing : (q.entries ≡ []) × (current_entries q.current ≡ []) =
+        append_none q.entries (current_entries q.current) (no_firsts (length q.skips + 2) (q.entries ++ current_entries q.current) (sym k.firsts ∙ no_lines)) in
+    let none : q.current ≡ current.Nothing = none_current q.current nothing.1 in
+    subst (λ t. Takes q (line.Skip s) t) may.1 (
+      record {
+        fresh = λ b. absurd (not_both q.begun n.0 b);
+        open_in = none_open u q.current none;
+        firsts = no_lines ∙ ap (first_lines (q.skips ++ s ∷ [])) (sym (ap (λ h. h ++ current_entries q.current) nothing.0 ∙ nothing.1));
+        each = k.each;
+        current_fits = k.current_fits;
+        skips_rise = rising_push skip_follows [] q.skips s k.skips_rise last.1;
+        routes_rise = k.routes_rise;
+        vifs_rise = k.vifs_rise;
+      },
+      ap (λ l. joined (begin_line q.begun) l (entries_lines 1 q.entries) (current_lines (length q.entries + 1) q.current) (map line.Route q.routes)(map line.Vif q.vifs)(map line.Fate q.fates)(end_line q.ended)) (map-append line.Skip q.skips (s ∷ []))
+      ∙ push_b (begin_line q.begun) (map line.Skip q.skips) (entries_lines 1 q.entries) (current_lines (length q.entries + 1) q.current)(map line.Route q.routes)(map line.Vif q.vifs)(map line.Fate q.fates)(end_line q.ended) (line.Skip s ∷ [])
+          (ap (entries_lines 1) nothing.0) (ap (current_lines (length q.entries + 1)) none) (ap (map line.Route) tail.0) (ap (map line.Vif) tail.1) (ap (map line.Fate) tail.2) (ap end_line n.1),
+    )
+
+begins : (s : State) (t : State) → Sound s → when (not s.begun) (Some (record s { begun = true })) ≡ Some t → Takes s line.History t
+begins s t k gives =
+    let may : (not s.begun ≡ true) × (record s { begun = true } ≡ t) = when_some (not s.begun) (record s { begun = true }) t gives in
+    let is : first_state ≡ s = sym (k.fresh (not_true s.begun may.0)) in
+    subst (λ t. Takes s line.History t) may.1
+      (subst (λ s. Takes s line.History (record s { begun = true })) is
+        (record { fresh = λ b. absurd (cc b); open_in = tt; firsts = refl; each = tt; current_fits = tt; skips_rise = tt; routes_rise = tt; vifs_rise = tt }, refl))
+
+-- A line of the tail is taken behind the lines of the last entry.
+ends : (s : State) (l : Line) (f : State → Option State) (t : State) → Sound s → ((q : State) → Sound q → q.current ≡ current.Nothing → f q ≡ Some t → Takes q l t)
+    → option_and_then f (closed s) ≡ Some t → Takes s l t
+ends s l f t k takes gives =
+    let found : (q : State) × (closed s ≡ Some q) × (f q ≡ Some t) = then_some (closed s) f t gives in
+    let closes : Closes s found.0 = closed_told s found.0 k found.1 in
+    let taken : Takes found.0 l t = takes found.0 closes.0 closes.2 found.2 in
+    (taken.0, taken.1 ∙ ap (λ i. i ++ l ∷ []) closes.1)
+
+-- a step takes just the line that it is given
+pub step_told : (s : State) (l : Line) (t : State) → Sound s → step (next_of s) s l ≡ Some t → Takes s l t
+step_told s line.History t k gives = begins s t k gives
+step_told s (line.Skip x) t k gives = skips_told s x t k gives
+step_told s (line.Call number d r reply) t k gives =
+    opens s number (current.Call d r reply []) (entry.Call d r reply []) (line.Call number d r reply) t k (lit≤ tt) (λ q n. n) refl refl gives
+step_told s (line.Released p) t k gives = releases s p s.current t refl k gives
+step_told s (line.Slow number lane index look o) t k gives =
+    adds s number (entry.Slow lane index look no_flow o) (line.Slow number lane index look o) t k refl refl gives
+step_told s (line.Settle number lane count) t k gives =
+    opens s number (current.Settle lane [] count) (entry.Settle lane []) (line.Settle number lane count) t k tt (λ q n. n) refl (rw zero-add refl) gives
+step_told s (line.Record f) t k gives = records_told s f s.current t refl k gives
+step_told s (line.Tick number d ms) t k gives = adds s number (entry.Tick d ms) (line.Tick number d ms) t k tt refl gives
+step_told s (line.Recv number d message) t k gives = adds s number (entry.Recv d message) (line.Recv number d message) t k tt refl gives
+step_told s (line.Phase number) t k gives = adds s number entry.EndPhase (line.Phase number) t k tt refl gives
+step_told s (line.Route r) t k gives = ends s (line.Route r) (with_route r) t k (λ q. routes_told q r t) gives
+step_told s (line.Vif v) t k gives = ends s (line.Vif v) (with_vif v) t k (λ q. vifs_told q v t) gives
+step_told s (line.Fate f) t k gives = ends s (line.Fate f) (with_fate f) t k (λ q. fates_told q f t) gives
+step_told s line.End t k gives = ends s line.End with_end t k (λ q. end_told q t) gives
