@@ -1,2 +1,5 @@
 pub mod Parting
 pub mod Telling
+pub mod Bytes
+pub mod Walking
+pub mod Leading

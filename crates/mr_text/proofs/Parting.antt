@@ -65,6 +65,13 @@ push_h a b c d e f g x = simp (append_assoc, append-nil)
 pub shift_c : {A : Type 0} (a b c d e f g h : List A) → joined a b (c ++ d) [] e f g h ≡ joined a b c d e f g h
 shift_c a b c d e f g h = simp (append_assoc, append-nil)
 
+regroup : {A : Type 0} (b c e f g h : List A) → b ++ c ++ [] ++ e ++ f ++ g ++ h ≡ b ++ c ++ (e ++ f ++ g) ++ h
+regroup b c e f g h = simp (append_assoc, append-nil)
+
+-- a whole text's lines
+pub whole_joined : {A : Type 0} (x : A) (a b c d e f g h : List A) → a ≡ x ∷ [] → d ≡ [] → joined a b c d e f g h ≡ x ∷ (b ++ c ++ (e ++ f ++ g) ++ h)
+whole_joined x a b c d e f g h ha hd = ap (λ l. joined l b c d e f g h) ha ∙ ap (λ l. joined (x ∷ []) b c l e f g h) hd ∙ ap (λ l. x ∷ l) (regroup b c e f g h)
+
 pub rising_push : {A : Type 0} (follows : List A → A → Bool) (done xs : List A) (x : A) → Rising follows done xs → follows (done ++ xs) x ≡ true → Rising follows done (xs ++ x ∷ [])
 rising_push follows done [] x r e = (rw append-nil at e, tt)
 rising_push follows done (y ∷ xs) x r e = (r.0, rising_push follows (done ++ y ∷ []) xs x r.1 (rw append_assoc e))
