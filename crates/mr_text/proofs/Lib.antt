@@ -3,3 +3,4 @@ pub mod Telling
 pub mod Bytes
 pub mod Walking
 pub mod Leading
+pub mod Pieces

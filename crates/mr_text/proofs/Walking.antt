@@ -45,7 +45,7 @@ line_told takes again s u p k e =
     let is : (parts_of 32 p ≡ line_words found.0) × LineFits found.0 = takes (parts_of 32 p) found.0 found.1 in
     (found.0, is.1, sym (again p) ∙ ap spaced is.0, step_told s found.0 u k found.2)
 
-next_told : (s u : State) (l : Line) → told u ≡ told s ++ l ∷ [] → next_line (next_of s) ≡ next_of u
+pub next_told : (s u : State) (l : Line) → told u ≡ told s ++ l ∷ [] → next_line (next_of s) ≡ next_of u
 next_told s u l e =
     let more : length (told u) ≡ length (told s) + 1 = ap length e ∙ length-append (told s) (l ∷ []) in
     next_capped (length (told s) + 1) ∙ ap (λ i. capped (i + 1)) (sym more)
@@ -112,7 +112,7 @@ state_read takes again bytes t e =
       k.firsts ∙ ap (λ c. first_lines t.skips (t.entries ++ current_entries c)) none ∙ ap (first_lines t.skips) (append-nil t.entries),
     )
 
-parts_ok : (r : Result State ℕ) (p : HistoryText) → parts_result r ≡ Ok p → (t : State) × (r ≡ Ok t) × (parts t ≡ p)
+pub parts_ok : (r : Result State ℕ) (p : HistoryText) → parts_result r ≡ Ok p → (t : State) × (r ≡ Ok t) × (parts t ≡ p)
 parts_ok (Ok t) p e = (t, refl, cc e)
 parts_ok (Err n) p e = absurd (cc e)
 
