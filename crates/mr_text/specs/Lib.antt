@@ -3,3 +3,4 @@ pub mod Orders
 pub mod Walk
 pub mod Whole
 pub mod Laws
+pub mod Answers

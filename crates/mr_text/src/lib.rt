@@ -2,6 +2,8 @@
 #![tactic(auto)]
 
 mod history_text;
+mod orders;
 mod reading_state;
+mod steps;
 
 pub use history_text::{HistoryText, TextError};
