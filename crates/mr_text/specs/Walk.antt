@@ -87,6 +87,11 @@ abbrev pub recorded : State → FastRecord → Current → Option State
 recorded s f (current.Settle lane records left) = when (nat_lt 0 left) (Some (record s { current = current.Settle lane (records ++ f ∷ []) (left - 1) }))
 recorded s f _ = None
 
+-- `history 1`, before any other line
+abbrev pub begun : State → Option State
+begun s = when (not s.begun) (Some (record s { begun = true }))
+
+-- a skip, before the entries, behind those that it follows
 abbrev pub skipped : State → Skip → Option State
 skipped s k =
     when (is_inside s && is_empty s.lines && has_no_tail s && skip_follows s.skips k) (Some (record s { skips = s.skips ++ k ∷ [] }))
@@ -105,7 +110,7 @@ with_end s = when (is_inside s) (Some (record s { ended = true }))
 
 -- What line n leaves of the state; none where it may not come.
 abbrev pub step : ℕ → State → Line → Option State
-step n s line.History = when (not s.begun) (Some (record s { begun = true }))
+step n s line.History = begun s
 step n s (line.Skip k) = skipped s k
 step n s (line.Call number d r reply) = opened n number (current.Call d r reply []) s
 step n s (line.Released p) = released s p s.current

@@ -3,7 +3,10 @@
 
 mod history_text;
 mod orders;
+mod reading;
 mod reading_state;
 mod steps;
+mod stub;
 
 pub use history_text::{HistoryText, TextError};
+pub use reading::read_history;

@@ -1,15 +1,16 @@
 //! What one line does to what was read so far. Where it may not come its number is the answer.
 
-ghost use Rattle.std.specs.Prelude.{◌≡◌};
+ghost use Rattle.std.specs.Prelude.{◌≡◌, option_and_then};
+ghost use Rattle.mr_lines.specs.Fit.{no_flow};
 ghost use Rattle.mr_text.specs.Answers.{Steps};
-ghost use Rattle.mr_text.specs.Walk.{added, closed, has_no_tail, is_inside, is_next, opened, recorded, released, skipped, step, with_end, with_fate, with_route, with_vif};
+ghost use Rattle.mr_text.specs.Walk.{added, begun, closed, has_no_tail, is_inside, is_next, opened, recorded, released, skipped, step, with_end, with_fate, with_route, with_vif};
 
 use crate::history_text::TextError;
 use crate::orders::{route_follows, skip_follows, vif_follows};
 use crate::reading_state::{Current, State};
-use mr_base::{Few, List};
+use mr_base::{Addr, Few, List};
 use mr_lines::{Line, RouteLine, Skip, VifLine};
-use mr_model::{Entry, FastRecord, FateLine, ReleasedId};
+use mr_model::{Entry, FastRecord, FateLine, Flow, ReleasedId};
 use std::alloc::Global;
 use std::mem;
 
@@ -113,7 +114,7 @@ fn release(line: u32, state: &mut State, packet: ReleasedId) -> Result<(), TextE
 }
 
 /// A record of the current settle.
-fn record(line: u32, state: &mut State, fast: FastRecord) -> Result<(), TextError>
+pub fn record(line: u32, state: &mut State, fast: FastRecord) -> Result<(), TextError>
     ensures { Steps result line state.new (recorded state.old fast state.old.current) }
 {
     match &mut state.current {
@@ -141,4 +142,145 @@ fn skip(line: u32, state: &mut State, skip: Skip) -> Result<(), TextError>
     }
     state.skips.0.push(skip)?;
     Ok(())
+}
+
+fn route(line: u32, state: &mut State, route: RouteLine) -> Result<(), TextError>
+    ensures { Steps result line state.new (option_and_then (with_route route) (closed state.old)) }
+{
+    close(line, state)?;
+    if !(is_inside(state)
+        && state.vifs.0.as_slice().len() == 0
+        && state.fates.0.as_slice().len() == 0
+        && route_follows(state.routes.0.as_slice(), &route))
+    {
+        return Err(TextError::Line(line));
+    }
+    state.routes.0.push(route)?;
+    Ok(())
+}
+
+fn vif(line: u32, state: &mut State, vif: VifLine) -> Result<(), TextError>
+    ensures { Steps result line state.new (option_and_then (with_vif vif) (closed state.old)) }
+{
+    close(line, state)?;
+    if !(is_inside(state)
+        && state.fates.0.as_slice().len() == 0
+        && vif_follows(state.vifs.0.as_slice(), &vif))
+    {
+        return Err(TextError::Line(line));
+    }
+    state.vifs.0.push(vif)?;
+    Ok(())
+}
+
+fn fate(line: u32, state: &mut State, fate: FateLine) -> Result<(), TextError>
+    ensures { Steps result line state.new (option_and_then (with_fate fate) (closed state.old)) }
+{
+    close(line, state)?;
+    if !is_inside(state) {
+        return Err(TextError::Line(line));
+    }
+    state.fates.0.push(fate)?;
+    Ok(())
+}
+
+fn end(line: u32, state: &mut State) -> Result<(), TextError>
+    ensures { Steps result line state.new (option_and_then with_end (closed state.old)) }
+{
+    close(line, state)?;
+    if !is_inside(state) {
+        return Err(TextError::Line(line));
+    }
+    state.ended = true;
+    Ok(())
+}
+
+fn begin(line: u32, state: &mut State) -> Result<(), TextError>
+    ensures { Steps result line state.new (begun state.old) }
+{
+    if state.begun {
+        return Err(TextError::Line(line));
+    }
+    state.begun = true;
+    Ok(())
+}
+
+/// What a line does.
+pub fn step(alloc: Global, line: u32, state: &mut State, read: Line) -> Result<(), TextError>
+    ensures { Steps result line state.new (step line state.old read) }
+{
+    match read {
+        Line::History => begin(line, state),
+        Line::Skip(item) => skip(line, state, item),
+        Line::Call {
+            number,
+            daemon,
+            request,
+            reply,
+        } => {
+            let released = Few::default();
+            let current = Current::Call {
+                daemon,
+                request,
+                reply,
+                released,
+            };
+            open(line, state, number, current)
+        }
+        Line::Released(packet) => release(line, state, packet),
+        Line::Slow {
+            number,
+            lane,
+            index,
+            look,
+            outcome,
+        } => {
+            let entry = Entry::Slow {
+                lane,
+                index,
+                look,
+                flow: no_flow(),
+                outcome,
+            };
+            add(line, state, number, entry)
+        }
+        Line::Settle {
+            number,
+            lane,
+            count,
+        } => {
+            let records = List(Vec::new(alloc));
+            let current = Current::Settle {
+                lane,
+                records,
+                left: count,
+            };
+            open(line, state, number, current)
+        }
+        Line::Record(fast) => record(line, state, fast),
+        Line::Tick { number, daemon, ms } => add(line, state, number, Entry::Tick { daemon, ms }),
+        Line::Recv {
+            number,
+            daemon,
+            message,
+        } => add(line, state, number, Entry::Recv { daemon, message }),
+        Line::Phase { number } => add(line, state, number, Entry::EndPhase),
+        Line::Route(item) => route(line, state, item),
+        Line::Vif(item) => vif(line, state, item),
+        Line::Fate(item) => fate(line, state, item),
+        Line::End => end(line, state),
+    }
+}
+
+/// The flow of a packet in a text, where it is not printed.
+fn no_flow() -> Flow
+    ensures { result ≡ no_flow }
+{
+    Flow {
+        dev: 0,
+        src: Addr(0),
+        dst: Addr(0),
+        ttl: 0,
+        length: 0,
+    }
 }
