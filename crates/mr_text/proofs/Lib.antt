@@ -4,3 +4,5 @@ pub mod Bytes
 pub mod Walking
 pub mod Leading
 pub mod Pieces
+pub mod Finding
+pub mod LineLaws

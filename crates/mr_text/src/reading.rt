@@ -87,12 +87,13 @@ pub fn read_history(alloc: Global, bytes: &[u8]) -> Result<HistoryText, TextErro
     let mut line = 1u32;
     let mut rest = bytes;
     'lines: loop {
-        let (piece, behind) = split_part(rest, b'\n');
-        let Some(after) = behind else {
-            return whole(line, state, piece);
-        };
-        take_line(alloc, line, &mut state, piece)?;
-        line = line.saturating_add(1);
-        rest = after;
+        match split_part(rest, b'\n') {
+            (piece, None) => return whole(line, state, piece),
+            (piece, Some(after)) => {
+                take_line(alloc, line, &mut state, piece)?;
+                line = line.saturating_add(1);
+                rest = after;
+            }
+        }
     }
 }
