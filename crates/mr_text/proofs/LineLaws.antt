@@ -1,7 +1,8 @@
--- The laws of lines, as the laws of texts use them.
+-- The laws of texts, from the laws of lines.
 use Rattle.mr_lines.specs.Laws.{LineTakes, LineAgain, LineSplits, LineIsOne, SpacedAgain}
-use Rattle.mr_text.specs.Laws.{ReadIsText}
+use Rattle.mr_text.specs.Laws.{ReadIsText, TextIsRead, OneText, NoneBegins}
 use Rattle.mr_text.proofs.Bytes.{rejoined}
+use Rattle.mr_text.proofs.Pieces.{text_is_read, one_text, none_begins}
 use Rattle.mr_text.proofs.Walking.{read_is_text}
 
 spaced_again : SpacedAgain
@@ -9,6 +10,21 @@ spaced_again bytes = rejoined 32 bytes
 
 line_takes : LineTakes
 line_takes = ?
+line_again : LineAgain
+line_again = ?
+line_splits : LineSplits
+line_splits = ?
+line_is_one : LineIsOne
+line_is_one = ?
 
 pub read_law : ReadIsText
 read_law = read_is_text line_takes spaced_again
+
+pub text_law : TextIsRead
+text_law = text_is_read line_again line_splits line_is_one
+
+pub one_law : OneText
+one_law = one_text text_law
+
+pub none_law : NoneBegins
+none_law = none_begins text_law

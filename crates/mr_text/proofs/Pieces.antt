@@ -1,7 +1,7 @@
 -- The text of parts that fit is walked to its end, and begins with no line outside the grammar.
 use Rattle.std.proofs.Common.{◌≡◌, ℕ, zero, suc, ◌+◌, ◌==◌, ◌&&◌, ◌≤◌, ◌<◌, Bool, true, false, not, Option, Some, None, Result, Ok, Err, List, [], ◌∷◌, ◌++◌, length, map, refl, sym, ap, ◌∙◌, subst, arith, lit≤, append-nil, append_assoc, length-append, ◌⊎◌, inl, inr}
 use Rattle.std.specs.Prelude.{if◌then◌else◌, flat_map, option_and_then, min, take}
-use Rattle.std.specs.List.{AllByRecursion, list_all}
+use Rattle.std.specs.List.{AllByRecursion, list_all, join_with_byte}
 use Rattle.std.proofs.lemmas.Bool.{and_parts}
 use Rattle.mr_lines.specs.Fit.{LineFits}
 use Rattle.mr_lines.specs.Forms.{spaced}
@@ -14,10 +14,11 @@ use Rattle.mr_lines.specs.declared.tail.Tail.{Tail}
 use Rattle.mr_model.specs.declared.entry.Entry.{Entry}
 use Rattle.mr_text.specs.declared.history_text.HistoryText.{HistoryText}
 use Rattle.mr_text.specs.declared.reading_state.State.{State}
-use Rattle.mr_text.specs.Laws.{TextIsRead, OneText, NoneBegins}
+use Rattle.mr_text.specs.Laws.{TextIsRead, OneText, NoneBegins, FirstLines}
 use Rattle.mr_text.specs.Text.{line_text, text_lines, text}
 use Rattle.mr_text.specs.Walk.{first_state, is_empty, step, line_step, next_line, last_line, line_gives, walk, parts, parts_result, walked}
 use Rattle.mr_text.specs.Whole.{PartsFit, capped, first_lines, first_bytes, told}
+use Rattle.mr_text.proofs.Bytes.{rejoined}
 use Rattle.mr_text.proofs.Leading.{runs, runs_sound, ended, lead_all}
 use Rattle.mr_text.proofs.Parting.{then_some}
 use Rattle.mr_text.proofs.Telling.{Sound, Takes, next_of, first_sound, step_told}
@@ -224,3 +225,24 @@ stuck_text bytes rest (suc k) e within low =
 pub none_begins : TextIsRead → NoneBegins
 none_begins read bytes n e within low ks h t rest p same =
     err_not_ok n (read_parts ks h t) (walked (text ks h t)) (ap walked same ∙ stuck_text bytes rest n e within low) (read ks h t p)
+
+take_zero : {A : Type 0} (xs : List A) → take 0 xs ≡ []
+take_zero [] = refl
+take_zero (x ∷ xs) = refl
+
+-- pieces with line feeds between them begin with the first of them
+begin_joined : (n : ℕ) (ps : List (List ℕ)) → n < length ps → (rest : List ℕ) × (join_with_byte 10 ps ≡ lines_again (take n ps) ++ rest)
+begin_joined zero ps within = (join_with_byte 10 ps, ap (λ l. lines_again l ++ join_with_byte 10 ps) (sym (take_zero ps)))
+begin_joined (suc n) [] within = absurd (omega arith)
+begin_joined (suc n) (p ∷ []) within = absurd (omega arith)
+begin_joined (suc n) (p ∷ q ∷ qs) within =
+    let more : (rest : List ℕ) × (join_with_byte 10 (q ∷ qs) ≡ lines_again (take n (q ∷ qs)) ++ rest) = begin_joined n (q ∷ qs) (omega arith) in
+    (
+      more.0,
+      ap (λ b. p ++ 10 ∷ b) more.1 ∙ sym (append_assoc p (10 ∷ []) (lines_again (take n (q ∷ qs)) ++ more.0)) ∙ sym (append_assoc (p ++ 10 ∷ []) (lines_again (take n (q ∷ qs))) more.0),
+    )
+
+pub begins_with : FirstLines
+begins_with bytes n within =
+    let found : (rest : List ℕ) × (join_with_byte 10 (parts_of 10 bytes) ≡ lines_again (take n (parts_of 10 bytes)) ++ rest) = begin_joined n (parts_of 10 bytes) within in
+    (found.0, sym (rejoined 10 bytes) ∙ found.1)

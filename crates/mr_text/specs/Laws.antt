@@ -29,3 +29,7 @@ OneText = (skips : List Skip) (h : List Entry) (t : Tail) (skips' : List Skip) (
 abbrev pub NoneBegins : Type 0
 NoneBegins = (bytes : List ℕ) (n : ℕ) → walked bytes ≡ Err n → n < length (parts_of 10 bytes) → n < 4294967295
     → (skips : List Skip) (h : List Entry) (t : Tail) (rest : List ℕ) → PartsFit skips h t → text skips h t ≡ first_bytes n bytes ++ rest → ⊥
+
+-- Bytes begin with their first n lines, where a line feed ends each of these.
+abbrev pub FirstLines : Type 0
+FirstLines = (bytes : List ℕ) (n : ℕ) → n < length (parts_of 10 bytes) → (rest : List ℕ) × (bytes ≡ first_bytes n bytes ++ rest)

@@ -2,6 +2,7 @@
 #![tactic(auto)]
 
 mod history_text;
+mod laws;
 mod orders;
 mod reading;
 mod reading_state;
@@ -9,4 +10,5 @@ mod steps;
 mod stub;
 
 pub use history_text::{HistoryText, TextError};
+pub use laws::{none_begins, one_text, read_is_text, text_is_read};
 pub use reading::read_history;
