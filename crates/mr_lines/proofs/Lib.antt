@@ -2,3 +2,5 @@ pub mod FieldLaws
 pub mod PartLaws
 pub mod NumberLaws
 pub mod WordLaws
+pub mod MaskLaws
+pub mod ItemLaws

@@ -89,3 +89,11 @@ free_one_line (w ∷ v ∷ ws) free =
 -- A line that its line feed ends is the first part.
 pub line_first : (line rest : List ℕ) → is_one_line line ≡ true → parts_of 10 (line ++ 10 ∷ rest) ≡ line ∷ parts_of 10 rest
 line_first line rest one = let first = part_front 10 line rest one in (λ i. first.0 i ∷ first.1 i)
+
+-- Free words joined by a free byte are free.
+pub joined_free : (sep : ℕ) → is_free sep ≡ true → (ws : List Word) → are_free ws ≡ true → list_all is_free (join_with_byte sep ws) ≡ true
+joined_free sep is [] free = refl
+joined_free sep is (w ∷ []) free = (and_parts _ _ free).0
+joined_free sep is (w ∷ v ∷ ws) free =
+    let split = and_parts _ _ free in
+    list_all-append is_free w (sep ∷ join_with_byte sep (v ∷ ws)) ∙ and_from _ _ split.0 (and_from _ _ is (joined_free sep is (v ∷ ws) split.1))
