@@ -4,3 +4,4 @@ pub mod NumberLaws
 pub mod WordLaws
 pub mod MaskLaws
 pub mod ItemLaws
+pub mod FormLaws
