@@ -5,3 +5,4 @@ pub mod WordLaws
 pub mod MaskLaws
 pub mod ItemLaws
 pub mod FormLaws
+pub mod RequestLaws
