@@ -6,3 +6,4 @@ pub mod MaskLaws
 pub mod ItemLaws
 pub mod FormLaws
 pub mod RequestLaws
+pub mod LineLaws

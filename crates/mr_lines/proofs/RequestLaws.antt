@@ -210,7 +210,7 @@ request_clean (request.SgCount src dst) fits = count_field.clean (src, dst) fits
 abbrev pub asked_words : Request → List Word
 asked_words r = request_words r ++ codes "=" ∷ []
 
-keyword_takes : {A : Type 0} (k : Word) (y x : A) (ws rest : List Word) → keyword k y ws ≡ Some (x, rest) → (ws ≡ k ∷ rest) × (y ≡ x)
+pub keyword_takes : {A : Type 0} (k : Word) (y x : A) (ws rest : List Word) → keyword k y ws ≡ Some (x, rest) → (ws ≡ k ∷ rest) × (y ≡ x)
 keyword_takes k y x [] rest e = absurd (cc)
 keyword_takes {A} k y x (w ∷ ws) rest e = pick w k (Some (y, ws)) None (Some (x, rest)) (λ same given. let parts = some_pair_parts y x ws rest given in ((λ i. same i ∷ parts.1 i), parts.0)) (λ none. absurd (cc)) e
 
