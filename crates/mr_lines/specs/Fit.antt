@@ -73,13 +73,13 @@ abbrev pub no_flow : Flow
 no_flow = record { dev = 0; src = record { 0 = 0 }; dst = record { 0 = 0 }; ttl = 0; length = 0 }
 
 abbrev pub VifCtlFits : VifCtl → Type 0
-VifCtlFits c = Fits16 c.vif × Fits8 c.flags × Fits32 c.local
+VifCtlFits c = Fits16 c.vif × (Fits8 c.flags × Fits32 c.local)
 
 abbrev pub MfcCtlFits : MfcCtl → Type 0
-MfcCtlFits c = AddrFits c.src × AddrFits c.dst × Fits16 c.parent × TtlsFit c.ttls
+MfcCtlFits c = AddrFits c.src × (AddrFits c.dst × (Fits16 c.parent × TtlsFit c.ttls))
 
 abbrev pub MfcKeyFits : MfcKey → Type 0
-MfcKeyFits k = AddrFits k.src × AddrFits k.dst × Fits16 k.parent
+MfcKeyFits k = AddrFits k.src × (AddrFits k.dst × Fits16 k.parent)
 
 abbrev pub RequestFits : Request → Type 0
 RequestFits request.Init = Unit {0}
@@ -102,10 +102,10 @@ RequestFits (request.VifCount i) = Fits16 i
 RequestFits (request.SgCount src dst) = AddrFits src × AddrFits dst
 
 abbrev pub RouteTotalsFit : RouteTotals → Type 0
-RouteTotalsFit t = Fits64 t.packets × Fits64 t.bytes × Fits64 t.wrong
+RouteTotalsFit t = Fits64 t.packets × (Fits64 t.bytes × Fits64 t.wrong)
 
 abbrev pub VifTotalsFit : VifTotals → Type 0
-VifTotalsFit t = Fits64 t.packets_in × Fits64 t.packets_out × Fits64 t.bytes_in × Fits64 t.bytes_out
+VifTotalsFit t = Fits64 t.packets_in × (Fits64 t.packets_out × (Fits64 t.bytes_in × Fits64 t.bytes_out))
 
 abbrev pub ReplyFits : Reply → Type 0
 ReplyFits reply.Good = Unit {0}
@@ -115,15 +115,15 @@ ReplyFits (reply.Vif t) = VifTotalsFit t
 ReplyFits (reply.Refused errno) = Unit {0}
 
 abbrev pub OutcomeFits : Outcome → Type 0
-OutcomeFits (outcome.Forward entry input outs) = Fits32 entry × VifFits input × MaskFits outs
-OutcomeFits (outcome.Register entry input outs told) = Fits32 entry × VifFits input × MaskFits outs
+OutcomeFits (outcome.Forward entry input outs) = Fits32 entry × (VifFits input × MaskFits outs)
+OutcomeFits (outcome.Register entry input outs told) = Fits32 entry × (VifFits input × MaskFits outs)
 OutcomeFits (outcome.Wrong entry vif report) = Fits32 entry × VifFits vif
 OutcomeFits outcome.Parked = Unit {0}
 OutcomeFits (outcome.Dropped cause) = Unit {0}
 
 abbrev pub MessageFits : Option MessageId → Type 0
 MessageFits None = Unit {0}
-MessageFits (Some m) = Fits8 m.vif × LaneFits m.lane × Fits32 m.index
+MessageFits (Some m) = Fits8 m.vif × (LaneFits m.lane × Fits32 m.index)
 
 abbrev pub FateFits : Fate → Type 0
 FateFits (fate.Released n) = Fits32 n
@@ -132,35 +132,35 @@ FateFits (fate.Flushed n) = Fits32 n
 FateFits fate.Waiting = Unit {0}
 
 abbrev pub SkipFits : Skip → Type 0
-SkipFits s = LaneFits s.lane × Fits32 s.index × Fits8 s.cause
+SkipFits s = LaneFits s.lane × (Fits32 s.index × Fits8 s.cause)
 
 abbrev pub ReleasedFits : ReleasedId → Type 0
-ReleasedFits r = LaneFits r.lane × Fits32 r.index × OutcomeFits r.outcome
+ReleasedFits r = LaneFits r.lane × (Fits32 r.index × OutcomeFits r.outcome)
 
 -- The flow of a record is not printed, so it is all zeros.
 abbrev pub RecordFits : FastRecord → Type 0
-RecordFits r = Fits32 r.index × Fits32 r.look × Fits32 r.entry × VifFits r.input × MaskFits r.outs × (r.flow ≡ no_flow)
+RecordFits r = Fits32 r.index × (Fits32 r.look × (Fits32 r.entry × (VifFits r.input × (MaskFits r.outs × (r.flow ≡ no_flow)))))
 
 abbrev pub RouteLineFits : RouteLine → Type 0
-RouteLineFits r = Fits32 r.number × AddrFits r.src × AddrFits r.dst × Fits8 r.parent × RouteTotalsFit r.totals
+RouteLineFits r = Fits32 r.number × (AddrFits r.src × (AddrFits r.dst × (Fits8 r.parent × RouteTotalsFit r.totals)))
 
 abbrev pub VifLineFits : VifLine → Type 0
-VifLineFits v = Fits8 v.vif × (is_vif_name v.name ≡ true) × VifTotalsFit v.totals
+VifLineFits v = Fits8 v.vif × ((is_vif_name v.name ≡ true) × VifTotalsFit v.totals)
 
 abbrev pub FateLineFits : FateLine → Type 0
-FateLineFits f = LaneFits f.lane × Fits32 f.index × FateFits f.fate
+FateLineFits f = LaneFits f.lane × (Fits32 f.index × FateFits f.fate)
 
 -- what holds of each line that can be read
 abbrev pub LineFits : Line → Type 0
 LineFits line.History = Unit {0}
 LineFits (line.Skip s) = SkipFits s
-LineFits (line.Call n d r reply) = Fits64 n × DaemonFits d × RequestFits r × ReplyFits reply
+LineFits (line.Call n d r reply) = Fits64 n × (DaemonFits d × (RequestFits r × ReplyFits reply))
 LineFits (line.Released r) = ReleasedFits r
-LineFits (line.Slow n lane index look o) = Fits64 n × LaneFits lane × Fits32 index × Fits32 look × OutcomeFits o
-LineFits (line.Settle n lane count) = Fits64 n × LaneFits lane × Fits64 count
+LineFits (line.Slow n lane index look o) = Fits64 n × (LaneFits lane × (Fits32 index × (Fits32 look × OutcomeFits o)))
+LineFits (line.Settle n lane count) = Fits64 n × (LaneFits lane × Fits64 count)
 LineFits (line.Record r) = RecordFits r
-LineFits (line.Tick n d ms) = Fits64 n × DaemonFits d × Fits32 ms
-LineFits (line.Recv n d message) = Fits64 n × DaemonFits d × MessageFits message
+LineFits (line.Tick n d ms) = Fits64 n × (DaemonFits d × Fits32 ms)
+LineFits (line.Recv n d message) = Fits64 n × (DaemonFits d × MessageFits message)
 LineFits (line.Phase n) = Fits64 n
 LineFits (line.Route r) = RouteLineFits r
 LineFits (line.Vif v) = VifLineFits v
