@@ -5,4 +5,4 @@ pub mod Walking
 pub mod Leading
 pub mod Pieces
 pub mod Finding
-pub mod LineLaws
+pub mod TextLaws

@@ -1,4 +1,4 @@
-use Rattle.mr_text.proofs.LineLaws.{none_law}
+use Rattle.mr_text.proofs.TextLaws.{none_law}
 use Rattle.mr_text.proofs.Pieces.{begins_with}
 use Rattle.mr_text.proofs.laws.none_begins.Goals as goal
 

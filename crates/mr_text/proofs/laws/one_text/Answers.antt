@@ -1,4 +1,4 @@
-use Rattle.mr_text.proofs.LineLaws.{one_law}
+use Rattle.mr_text.proofs.TextLaws.{one_law}
 use Rattle.mr_text.proofs.laws.one_text.Goals as goal
 
 pub returns : goal.returns

@@ -1,4 +1,4 @@
-use Rattle.mr_text.proofs.LineLaws.{read_law}
+use Rattle.mr_text.proofs.TextLaws.{read_law}
 use Rattle.mr_text.proofs.laws.read_is_text.Goals as goal
 
 pub returns : goal.returns

@@ -1,4 +1,4 @@
-use Rattle.mr_text.proofs.LineLaws.{text_law}
+use Rattle.mr_text.proofs.TextLaws.{text_law}
 use Rattle.mr_text.proofs.laws.text_is_read.Goals as goal
 
 pub returns : goal.returns

@@ -1,7 +1,7 @@
 use Rattle.std.proofs.Common.{ap, ◌∙◌, ◌∷◌}
 use Rattle.std.specs.Prelude.{option_copied}
 use Rattle.mr_text.proofs.Finding.{found_by}
-use Rattle.mr_text.proofs.LineLaws.{read_law}
+use Rattle.mr_text.proofs.TextLaws.{read_law}
 use Rattle.mr_text.proofs.reading.read_history.Goals as goal
 use Rattle.mr_words.specs.Parts.{parts_left}
 

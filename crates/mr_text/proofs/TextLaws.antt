@@ -1,21 +1,9 @@
 -- The laws of texts, from the laws of lines.
-use Rattle.mr_lines.specs.Laws.{LineTakes, LineAgain, LineSplits, LineIsOne, SpacedAgain}
+use Rattle.mr_lines.proofs.LineLaws.{line_takes, line_again, line_splits, line_is_one}
+use Rattle.mr_lines.proofs.PartLaws.{spaced_again}
 use Rattle.mr_text.specs.Laws.{ReadIsText, TextIsRead, OneText, NoneBegins}
-use Rattle.mr_text.proofs.Bytes.{rejoined}
 use Rattle.mr_text.proofs.Pieces.{text_is_read, one_text, none_begins}
 use Rattle.mr_text.proofs.Walking.{read_is_text}
-
-spaced_again : SpacedAgain
-spaced_again bytes = rejoined 32 bytes
-
-line_takes : LineTakes
-line_takes = ?
-line_again : LineAgain
-line_again = ?
-line_splits : LineSplits
-line_splits = ?
-line_is_one : LineIsOne
-line_is_one = ?
 
 pub read_law : ReadIsText
 read_law = read_is_text line_takes spaced_again
