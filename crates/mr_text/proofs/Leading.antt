@@ -60,8 +60,8 @@ run_skips : (ks done : List Skip) → Rising skip_follows done ks → runs (at d
 run_skips [] done r = ap (λ ks. Some (at ks [] [] current.Nothing [] [] [])) (sym (append-nil done))
 run_skips (k ∷ ks) done r =
     runs_on (line.Skip k) (map line.Skip ks) (at done [] [] current.Nothing [] [] []) (at (done ++ k ∷ []) [] [] current.Nothing [] [] []) _
-      (ap (λ b. when b (Some (at (done ++ k ∷ []) [] [] current.Nothing [] [] []))) r.0)
-      (run_skips ks (done ++ k ∷ []) r.1 ∙ ap (λ ks. Some (at ks [] [] current.Nothing [] [] [])) (append_assoc done (k ∷ []) ks))
+    (ap (λ b. when b (Some (at (done ++ k ∷ []) [] [] current.Nothing [] [] []))) r.0)
+    (run_skips ks (done ++ k ∷ []) r.1 ∙ ap (λ ks. Some (at ks [] [] current.Nothing [] [] [])) (append_assoc done (k ∷ []) ks))
 
 -- Behind lines the entry in work may end: then the state has these entries.
 abbrev Quiet : State → List Skip → List Entry → List RouteLine → List VifLine → List FateLine → Type 0
@@ -79,7 +79,7 @@ lead_one : (s : State) (l : Line) (e : Entry) (ks : List Skip) (es : List Entry)
 lead_one s l e ks es q is =
     let t : State = at ks (es ++ e ∷ []) (q.0 ++ next_of s ∷ []) current.Nothing [] [] [] in
     let goes : added (next_of s) (length es + 1) e s ≡ Some t =
-        then_goes (closed s) (added_in (next_of s) (length es + 1) e) (at ks es q.0 current.Nothing [] [] []) q.1 ∙ ap (λ b. when b (Some t)) (same_number (length es + 1)) in
+    then_goes (closed s) (added_in (next_of s) (length es + 1) e) (at ks es q.0 current.Nothing [] [] []) q.1 ∙ ap (λ b. when b (Some t)) (same_number (length es + 1)) in
     (t, runs_on l [] s t t (is ∙ goes) refl, (q.0 ++ next_of s ∷ [], refl))
 
 lead_open : (s : State) (l : Line) (o : Current) (ks : List Skip) (es : List Entry) (more : List Line) (u : State) (q : Quiet s ks es [] [] [])
@@ -87,7 +87,7 @@ lead_open : (s : State) (l : Line) (o : Current) (ks : List Skip) (es : List Ent
 lead_open s l o ks es more u q is further =
     let t : State = at ks es (q.0 ++ next_of s ∷ []) o [] [] [] in
     let goes : opened (next_of s) (length es + 1) o s ≡ Some t =
-        then_goes (closed s) (opened_in (next_of s) (length es + 1) o) (at ks es q.0 current.Nothing [] [] []) q.1 ∙ ap (λ b. when b (Some t)) (same_number (length es + 1)) in
+    then_goes (closed s) (opened_in (next_of s) (length es + 1) o) (at ks es q.0 current.Nothing [] [] []) q.1 ∙ ap (λ b. when b (Some t)) (same_number (length es + 1)) in
     runs_on l more s t u (is ∙ goes) further
 
 below_four : (n : ℕ) → n + 1 ≤ 4 → nat_lt n 4 ≡ true
@@ -105,8 +105,8 @@ run_released ks es ls d r reply (p ∷ ps) done few =
     let one : length done + 1 ≤ 4 = omega arith in
     let same : (done ++ p ∷ []) ++ ps ≡ done ++ p ∷ ps = append_assoc done (p ∷ []) ps in
     runs_on (line.Released p) (map line.Released ps) (at ks es ls (current.Call d r reply done) [] [] []) t _
-      (ap (λ b. when b (Some t)) (below_four (length done) one))
-      (run_released ks es ls d r reply ps (done ++ p ∷ []) (subst (λ l. length l ≤ 4) (sym same) few) ∙ ap (λ ps. Some (at ks es ls (current.Call d r reply ps) [] [] [])) same)
+    (ap (λ b. when b (Some t)) (below_four (length done) one))
+    (run_released ks es ls d r reply ps (done ++ p ∷ []) (subst (λ l. length l ≤ 4) (sym same) few) ∙ ap (λ ps. Some (at ks es ls (current.Call d r reply ps) [] [] [])) same)
 
 run_records : (ks : List Skip) (es : List Entry) (ls : List ℕ) (lane : LaneNo) (fs done : List FastRecord) (left : ℕ) → left ≡ length fs
     → runs (at ks es ls (current.Settle lane done left) [] [] []) (map line.Record fs) ≡ Some (at ks es ls (current.Settle lane (done ++ fs) 0) [] [] [])
@@ -117,13 +117,12 @@ run_records ks es ls lane (f ∷ fs) done left is =
     let one : left ≡ length fs + 1 = omega arith in
     let less : left - 1 ≡ length fs = omega arith in
     runs_on (line.Record f) (map line.Record fs) (at ks es ls (current.Settle lane done left) [] [] []) t _
-      (ap (λ b. when b (Some t)) (some_left left (length fs) one))
-      (run_records ks es ls lane fs (done ++ f ∷ []) (left - 1) less ∙ ap (λ fs. Some (at ks es ls (current.Settle lane fs 0) [] [] [])) (append_assoc done (f ∷ []) fs))
+    (ap (λ b. when b (Some t)) (some_left left (length fs) one))
+    (run_records ks es ls lane fs (done ++ f ∷ []) (left - 1) less ∙ ap (λ fs. Some (at ks es ls (current.Settle lane fs 0) [] [] [])) (append_assoc done (f ∷ []) fs))
 
 lead_entry : (s : State) (e : Entry) (ks : List Skip) (es : List Entry) → Quiet s ks es [] [] [] → EntryFits e → Leads s (entry_lines (length es + 1) e) ks (es ++ e ∷ []) [] [] []
 lead_entry s (entry.Call d r reply released) ks es q few =
-    let ls : List ℕ = q.0 ++ next_of s ∷ [] in
-    (
+    let ls : List ℕ = q.0 ++ next_of s ∷ [] in (
       at ks es ls (current.Call d r reply released) [] [] [],
       lead_open s (line.Call (length es + 1) d r reply) (current.Call d r reply []) ks es (map line.Released released) _ q refl (run_released ks es ls d r reply released [] few),
       (ls, refl),
@@ -131,8 +130,7 @@ lead_entry s (entry.Call d r reply released) ks es q few =
 lead_entry s (entry.Slow lane index look flow o) ks es q same =
     lead_one s (line.Slow (length es + 1) lane index look o) (entry.Slow lane index look flow o) ks es q (ap (λ f. added (next_of s) (length es + 1) (entry.Slow lane index look f o) s) (sym same))
 lead_entry s (entry.Settle lane records) ks es q few =
-    let ls : List ℕ = q.0 ++ next_of s ∷ [] in
-    (
+    let ls : List ℕ = q.0 ++ next_of s ∷ [] in (
       at ks es ls (current.Settle lane records 0) [] [] [],
       lead_open s (line.Settle (length es + 1) lane (length records)) (current.Settle lane [] (length records)) ks es (map line.Record records) _ q refl (run_records ks es ls lane records [] (length records) refl),
       (ls, refl),
@@ -146,8 +144,7 @@ lead_entries [] s ks es q fits = (s, refl, subst (λ h. Quiet s ks h [] [] []) (
 lead_entries (e ∷ h) s ks es q fits =
     let one : Leads s (entry_lines (length es + 1) e) ks (es ++ e ∷ []) [] [] [] = lead_entry s e ks es q fits.0 in
     let more : Leads one.0 (entries_lines (length (es ++ e ∷ []) + 1) h) ks ((es ++ e ∷ []) ++ h) [] [] [] = lead_entries h one.0 ks (es ++ e ∷ []) one.2 fits.1 in
-    let number : length (es ++ e ∷ []) + 1 ≡ length es + 1 + 1 = ap (λ i. i + 1) (length-append es (e ∷ [])) in
-    (
+    let number : length (es ++ e ∷ []) + 1 ≡ length es + 1 + 1 = ap (λ i. i + 1) (length-append es (e ∷ [])) in (
       more.0,
       runs_append (entry_lines (length es + 1) e) (entries_lines (length es + 1 + 1) h) s one.0 more.0 one.1 (ap (λ i. runs one.0 (entries_lines i h)) (sym number) ∙ more.1),
       subst (λ h. Quiet more.0 ks h [] [] []) (append_assoc es (e ∷ []) h) more.2,
@@ -158,7 +155,7 @@ lead_routes [] rs s ks es q r = (s, refl, subst (λ l. Quiet s ks es l [] []) (s
 lead_routes (x ∷ xs) rs s ks es q r =
     let t : State = at ks es q.0 current.Nothing (rs ++ x ∷ []) [] [] in
     let goes : step (next_of s) s (line.Route x) ≡ Some t =
-        then_goes (closed s) (with_route x) (at ks es q.0 current.Nothing rs [] []) q.1 ∙ ap (λ b. when b (Some t)) r.0 in
+    then_goes (closed s) (with_route x) (at ks es q.0 current.Nothing rs [] []) q.1 ∙ ap (λ b. when b (Some t)) r.0 in
     let more : Leads t (map line.Route xs) ks es ((rs ++ x ∷ []) ++ xs) [] [] = lead_routes xs (rs ++ x ∷ []) t ks es (q.0, refl) r.1 in
     (more.0, runs_on (line.Route x) (map line.Route xs) s t more.0 goes more.1, subst (λ l. Quiet more.0 ks es l [] []) (append_assoc rs (x ∷ []) xs) more.2)
 
@@ -167,7 +164,7 @@ lead_vifs [] vs s ks es rs q r = (s, refl, subst (λ l. Quiet s ks es rs l []) (
 lead_vifs (x ∷ xs) vs s ks es rs q r =
     let t : State = at ks es q.0 current.Nothing rs (vs ++ x ∷ []) [] in
     let goes : step (next_of s) s (line.Vif x) ≡ Some t =
-        then_goes (closed s) (with_vif x) (at ks es q.0 current.Nothing rs vs []) q.1 ∙ ap (λ b. when b (Some t)) r.0 in
+    then_goes (closed s) (with_vif x) (at ks es q.0 current.Nothing rs vs []) q.1 ∙ ap (λ b. when b (Some t)) r.0 in
     let more : Leads t (map line.Vif xs) ks es rs ((vs ++ x ∷ []) ++ xs) [] = lead_vifs xs (vs ++ x ∷ []) t ks es rs (q.0, refl) r.1 in
     (more.0, runs_on (line.Vif x) (map line.Vif xs) s t more.0 goes more.1, subst (λ l. Quiet more.0 ks es rs l []) (append_assoc vs (x ∷ []) xs) more.2)
 
@@ -194,13 +191,12 @@ lead_all ks h t p =
     let fates : Leads vifs.0 (map line.Fate t.fates) ks h t.routes t.vifs t.fates = lead_fates t.fates [] vifs.0 ks h t.routes t.vifs vifs.2 in
     let q : Quiet fates.0 ks h t.routes t.vifs t.fates = fates.2 in
     let last : runs fates.0 (line.End ∷ []) ≡ Some (ended ks h t q.0) =
-        runs_on line.End [] fates.0 (ended ks h t q.0) (ended ks h t q.0) (then_goes (closed fates.0) with_end (at ks h q.0 current.Nothing t.routes t.vifs t.fates) q.1) refl in
+    runs_on line.End [] fates.0 (ended ks h t q.0) (ended ks h t q.0) (then_goes (closed fates.0) with_end (at ks h q.0 current.Nothing t.routes t.vifs t.fates) q.1) refl in
     let tail : runs entries.0 (tail_lines t) ≡ Some fates.0 =
-        runs_append (map line.Route t.routes ++ map line.Vif t.vifs) (map line.Fate t.fates) entries.0 vifs.0 fates.0
-          (runs_append (map line.Route t.routes) (map line.Vif t.vifs) entries.0 routes.0 vifs.0 routes.1 vifs.1) fates.1 in
-    let front : runs begun (map line.Skip ks ++ entries_lines 1 h) ≡ Some entries.0 = runs_append (map line.Skip ks) (entries_lines 1 h) begun (at ks [] [] current.Nothing [] [] []) entries.0 skips entries.1 in
-    (
+    runs_append (map line.Route t.routes ++ map line.Vif t.vifs) (map line.Fate t.fates) entries.0 vifs.0 fates.0
+    (runs_append (map line.Route t.routes) (map line.Vif t.vifs) entries.0 routes.0 vifs.0 routes.1 vifs.1) fates.1 in
+    let front : runs begun (map line.Skip ks ++ entries_lines 1 h) ≡ Some entries.0 = runs_append (map line.Skip ks) (entries_lines 1 h) begun (at ks [] [] current.Nothing [] [] []) entries.0 skips entries.1 in (
       q.0,
       runs_append (map line.Skip ks ++ entries_lines 1 h ++ tail_lines t) (line.End ∷ []) begun fates.0 (ended ks h t q.0)
-        (runs_append (map line.Skip ks ++ entries_lines 1 h) (tail_lines t) begun entries.0 fates.0 front tail) last,
+          (runs_append (map line.Skip ks ++ entries_lines 1 h) (tail_lines t) begun entries.0 fates.0 front tail) last,
     )

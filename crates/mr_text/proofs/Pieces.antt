@@ -86,7 +86,7 @@ text_is_read again splits one ks h t p =
     let last : State = ended ks h t all.0 in
     let k : Sound last = runs_sound (text_lines ks h t) first_state last first_sound all.1 in
     let goes : walk 1 first_state (parts_of 10 (text ks h t)) ≡ Ok last =
-        ap (walk 1 first_state) (cut_lines one (text_lines ks h t) p.lines) ∙ walk_lines again splits (text_lines ks h t) first_state last first_sound p.lines all.1 refl in
+    ap (walk 1 first_state) (cut_lines one (text_lines ks h t) p.lines) ∙ walk_lines again splits (text_lines ks h t) first_state last first_sound p.lines all.1 refl in
     let lines : all.0 ≡ first_lines ks h = k.firsts ∙ ap (first_lines ks) (append-nil h) in
     ap parts_result goes ∙ ap (λ ls. Ok (record { skips = ks; entries = h; tail = t; lines = ls })) lines
 
@@ -197,7 +197,7 @@ cut_again [] rest a = refl
 cut_again (p ∷ ps) rest a =
     let both : (before 10 (p ++ 10 ∷ (lines_again ps ++ rest)) ≡ p) × (parts_behind 10 (p ++ 10 ∷ (lines_again ps ++ rest)) ≡ parts_of 10 (lines_again ps ++ rest)) = cut p (lines_again ps ++ rest) a.0 in
     let same : ((p ++ 10 ∷ []) ++ lines_again ps) ++ rest ≡ p ++ 10 ∷ (lines_again ps ++ rest) =
-        append_assoc (p ++ 10 ∷ []) (lines_again ps) rest ∙ append_assoc p (10 ∷ []) (lines_again ps ++ rest) in
+    append_assoc (p ++ 10 ∷ []) (lines_again ps) rest ∙ append_assoc p (10 ∷ []) (lines_again ps ++ rest) in
     ap (parts_of 10) same ∙ ap (λ q. q ∷ parts_behind 10 (p ++ 10 ∷ (lines_again ps ++ rest))) both.0 ∙ ap (λ qs. p ∷ qs) (both.1 ∙ cut_again ps rest a.1)
 
 parts_err : (r : Result State ℕ) (n : ℕ) → parts_result r ≡ Err n → r ≡ Err n
@@ -219,7 +219,7 @@ stuck_text bytes rest (suc k) e within low =
     let number : suc k ≡ 1 + k = omega arith in
     let fails : walk 1 first_state (parts_of 10 bytes) ≡ Err (1 + k) = parts_err (walk 1 first_state (parts_of 10 bytes)) (suc k) e ∙ ap (λ i. Err i) number in
     let again : parts_of 10 (first_bytes (suc k) bytes ++ rest) ≡ take (suc k) (parts_of 10 bytes) ++ parts_of 10 rest =
-        cut_again (take (suc k) (parts_of 10 bytes)) rest (take_all_of IsOne (suc k) (parts_of 10 bytes) (front_one bytes, behind_one bytes)) in
+    cut_again (take (suc k) (parts_of 10 bytes)) rest (take_all_of IsOne (suc k) (parts_of 10 bytes) (front_one bytes, behind_one bytes)) in
     ap parts_result (ap (walk 1 first_state) again ∙ stuck (parts_of 10 bytes) (parts_of 10 rest) 1 k first_state fails (omega arith) (omega arith) (some_parts rest) ∙ ap (λ i. Err i) (sym number))
 
 pub none_begins : TextIsRead → NoneBegins
@@ -236,8 +236,7 @@ begin_joined zero ps within = (join_with_byte 10 ps, ap (λ l. lines_again l ++ 
 begin_joined (suc n) [] within = absurd (omega arith)
 begin_joined (suc n) (p ∷ []) within = absurd (omega arith)
 begin_joined (suc n) (p ∷ q ∷ qs) within =
-    let more : (rest : List ℕ) × (join_with_byte 10 (q ∷ qs) ≡ lines_again (take n (q ∷ qs)) ++ rest) = begin_joined n (q ∷ qs) (omega arith) in
-    (
+    let more : (rest : List ℕ) × (join_with_byte 10 (q ∷ qs) ≡ lines_again (take n (q ∷ qs)) ++ rest) = begin_joined n (q ∷ qs) (omega arith) in (
       more.0,
       ap (λ b. p ++ 10 ∷ b) more.1 ∙ sym (append_assoc p (10 ∷ []) (lines_again (take n (q ∷ qs)) ++ more.0)) ∙ sym (append_assoc (p ++ 10 ∷ []) (lines_again (take n (q ∷ qs))) more.0),
     )

@@ -74,8 +74,7 @@ entry_closed : (s : State) (o : Current) (e : Entry) → s.current ≡ o → Sou
 entry_closed s o e is k n fits one spelled =
     let same : 1 + length s.entries ≡ length s.entries + 1 = omega arith in
     let pushed : entries_lines 1 (s.entries ++ e ∷ []) ≡ entries_lines 1 s.entries ++ current_lines (length s.entries + 1) s.current =
-        entries_push 1 s.entries e ∙ ap (λ i. entries_lines 1 s.entries ++ entry_lines i e) same ∙ ap (λ l. entries_lines 1 s.entries ++ l) (spelled ∙ ap (current_lines (length s.entries + 1)) (sym is)) in
-    (
+    entries_push 1 s.entries e ∙ ap (λ i. entries_lines 1 s.entries ++ entry_lines i e) same ∙ ap (λ l. entries_lines 1 s.entries ++ l) (spelled ∙ ap (current_lines (length s.entries + 1)) (sym is)) in (
       record {
         fresh = λ b. absurd (not_both s.begun n.0 b);
         open_in = tt;
@@ -87,7 +86,7 @@ entry_closed s o e is k n fits one spelled =
         vifs_rise = k.vifs_rise;
       },
       ap (λ l. joined (begin_line s.begun) (map line.Skip s.skips) l [] (map line.Route s.routes) (map line.Vif s.vifs) (map line.Fate s.fates) (end_line s.ended)) pushed
-      ∙ shift_c (begin_line s.begun) (map line.Skip s.skips) (entries_lines 1 s.entries) (current_lines (length s.entries + 1) s.current) (map line.Route s.routes) (map line.Vif s.vifs) (map line.Fate s.fates) (end_line s.ended),
+          ∙ shift_c (begin_line s.begun) (map line.Skip s.skips) (entries_lines 1 s.entries) (current_lines (length s.entries + 1) s.current) (map line.Route s.routes) (map line.Vif s.vifs) (map line.Fate s.fates) (end_line s.ended),
       refl,
     )
 
@@ -102,8 +101,8 @@ closed_by s (current.Settle lane records left) q is k e =
     let parts : ((left == 0) ≡ true) × (with_entry s (entry.Settle lane records) ≡ q) = when_some (left == 0) (with_entry s (entry.Settle lane records)) q e in
     let none : left ≡ 0 = is_equal left 0 parts.0 in
     subst (λ q. Closes s q) parts.1
-      (entry_closed s (current.Settle lane records left) (entry.Settle lane records) is k (subst (OpenIn s) is k.open_in) tt refl
-        (rw (none, add-zero) refl))
+    (entry_closed s (current.Settle lane records left) (entry.Settle lane records) is k (subst (OpenIn s) is k.open_in) tt refl
+    (rw (none, add-zero) refl))
 
 pub closed_told : (s q : State) → Sound s → closed s ≡ Some q → Closes s q
 closed_told s q k e = closed_by s s.current q refl k e
@@ -134,8 +133,8 @@ next_parts s number e =
 told_length : (q : State) → q.current ≡ current.Nothing → NoTail q → length (told q) + 1 ≡ length q.skips + 2 + length (entries_lines 1 q.entries)
 told_length q none n =
     let front : told q ≡ begin_line q.begun ++ map line.Skip q.skips ++ entries_lines 1 q.entries =
-        front_joined (begin_line q.begun) (map line.Skip q.skips) (entries_lines 1 q.entries) (current_lines (length q.entries + 1) q.current) (map line.Route q.routes) (map line.Vif q.vifs) (map line.Fate q.fates) (end_line q.ended)
-          (ap (current_lines (length q.entries + 1)) none) (ap (map line.Route) n.1) (ap (map line.Vif) n.2) (ap (map line.Fate) n.3) (ap end_line n.4) in
+    front_joined (begin_line q.begun) (map line.Skip q.skips) (entries_lines 1 q.entries) (current_lines (length q.entries + 1) q.current) (map line.Route q.routes) (map line.Vif q.vifs) (map line.Fate q.fates) (end_line q.ended)
+    (ap (current_lines (length q.entries + 1)) none) (ap (map line.Route) n.1) (ap (map line.Vif) n.2) (ap (map line.Fate) n.3) (ap end_line n.4) in
     let all : length (told q) ≡ length (begin_line q.begun ++ map line.Skip q.skips ++ entries_lines 1 q.entries) = ap length front in
     let most : length (begin_line q.begun ++ map line.Skip q.skips ++ entries_lines 1 q.entries) ≡ length (begin_line q.begun ++ map line.Skip q.skips) + length (entries_lines 1 q.entries) = length-append (begin_line q.begun ++ map line.Skip q.skips) (entries_lines 1 q.entries) in
     let both : length (begin_line q.begun ++ map line.Skip q.skips) ≡ length (begin_line q.begun) + length (map line.Skip q.skips) = length-append (begin_line q.begun) (map line.Skip q.skips) in
@@ -167,29 +166,28 @@ open_as q (current.Settle lane records left) w = w
 opened_told : (q : State) (o : Current) (e : Entry) (l : Line) → Sound q → q.current ≡ current.Nothing → NoTail q → CurrentFits o → OpenIn q o
     → current_entries o ≡ e ∷ [] → current_lines (length q.entries + 1) o ≡ l ∷ [] → Takes q l (with_open (next_of q) o q)
 opened_told q o e l k none n fits within one spelled = (
-    record {
-      fresh = λ b. absurd (not_both q.begun n.0 b);
-      open_in = open_as q o within;
-      firsts = firsts_more q e k none n ∙ ap (λ l. first_lines q.skips (q.entries ++ l)) (sym one);
-      each = k.each;
-      current_fits = fits;
-      skips_rise = k.skips_rise;
-      routes_rise = k.routes_rise;
-      vifs_rise = k.vifs_rise;
-    },
-    ap (λ d. joined (begin_line q.begun) (map line.Skip q.skips) (entries_lines 1 q.entries) d (map line.Route q.routes) (map line.Vif q.vifs) (map line.Fate q.fates) (end_line q.ended)) spelled
-    ∙ push_d (begin_line q.begun) (map line.Skip q.skips) (entries_lines 1 q.entries) [] (map line.Route q.routes) (map line.Vif q.vifs) (map line.Fate q.fates) (end_line q.ended) (l ∷ [])
-        (ap (map line.Route) n.1) (ap (map line.Vif) n.2) (ap (map line.Fate) n.3) (ap end_line n.4)
-    ∙ ap (λ c. joined (begin_line q.begun) (map line.Skip q.skips) (entries_lines 1 q.entries) (current_lines (length q.entries + 1) c) (map line.Route q.routes) (map line.Vif q.vifs) (map line.Fate q.fates) (end_line q.ended) ++ l ∷ []) (sym none),
-  )
+  record {
+    fresh = λ b. absurd (not_both q.begun n.0 b);
+    open_in = open_as q o within;
+    firsts = firsts_more q e k none n ∙ ap (λ l. first_lines q.skips (q.entries ++ l)) (sym one);
+    each = k.each;
+    current_fits = fits;
+    skips_rise = k.skips_rise;
+    routes_rise = k.routes_rise;
+    vifs_rise = k.vifs_rise;
+  },
+  ap (λ d. joined (begin_line q.begun) (map line.Skip q.skips) (entries_lines 1 q.entries) d (map line.Route q.routes) (map line.Vif q.vifs) (map line.Fate q.fates) (end_line q.ended)) spelled
+      ∙ push_d (begin_line q.begun) (map line.Skip q.skips) (entries_lines 1 q.entries) [] (map line.Route q.routes) (map line.Vif q.vifs) (map line.Fate q.fates) (end_line q.ended) (l ∷ [])
+      (ap (map line.Route) n.1) (ap (map line.Vif) n.2) (ap (map line.Fate) n.3) (ap end_line n.4)
+      ∙ ap (λ c. joined (begin_line q.begun) (map line.Skip q.skips) (entries_lines 1 q.entries) (current_lines (length q.entries + 1) c) (map line.Route q.routes) (map line.Vif q.vifs) (map line.Fate q.fates) (end_line q.ended) ++ l ∷ []) (sym none),
+)
 
 added_told : (q : State) (e : Entry) (l : Line) → Sound q → q.current ≡ current.Nothing → NoTail q → EntryFits e
     → entry_lines (length q.entries + 1) e ≡ l ∷ [] → Takes q l (with_line (next_of q) e q)
 added_told q e l k none n fits spelled =
     let same : 1 + length q.entries ≡ length q.entries + 1 = omega arith in
     let pushed : entries_lines 1 (q.entries ++ e ∷ []) ≡ entries_lines 1 q.entries ++ l ∷ [] =
-        entries_push 1 q.entries e ∙ ap (λ i. entries_lines 1 q.entries ++ entry_lines i e) same ∙ ap (λ l. entries_lines 1 q.entries ++ l) spelled in
-    (
+    entries_push 1 q.entries e ∙ ap (λ i. entries_lines 1 q.entries ++ entry_lines i e) same ∙ ap (λ l. entries_lines 1 q.entries ++ l) spelled in (
       record {
         fresh = λ b. absurd (not_both q.begun n.0 b);
         open_in = none_open (with_line (next_of q) e q) q.current none;
@@ -201,10 +199,10 @@ added_told q e l k none n fits spelled =
         vifs_rise = k.vifs_rise;
       },
       ap (λ c. joined (begin_line q.begun) (map line.Skip q.skips) (entries_lines 1 (q.entries ++ e ∷ [])) (current_lines (length (q.entries ++ e ∷ []) + 1) c) (map line.Route q.routes) (map line.Vif q.vifs) (map line.Fate q.fates) (end_line q.ended)) none
-      ∙ ap (λ c. joined (begin_line q.begun) (map line.Skip q.skips) c [] (map line.Route q.routes) (map line.Vif q.vifs) (map line.Fate q.fates) (end_line q.ended)) pushed
-      ∙ push_c (begin_line q.begun) (map line.Skip q.skips) (entries_lines 1 q.entries) [] (map line.Route q.routes) (map line.Vif q.vifs) (map line.Fate q.fates) (end_line q.ended) (l ∷ [])
+          ∙ ap (λ c. joined (begin_line q.begun) (map line.Skip q.skips) c [] (map line.Route q.routes) (map line.Vif q.vifs) (map line.Fate q.fates) (end_line q.ended)) pushed
+          ∙ push_c (begin_line q.begun) (map line.Skip q.skips) (entries_lines 1 q.entries) [] (map line.Route q.routes) (map line.Vif q.vifs) (map line.Fate q.fates) (end_line q.ended) (l ∷ [])
           refl (ap (map line.Route) n.1) (ap (map line.Vif) n.2) (ap (map line.Fate) n.3) (ap end_line n.4)
-      ∙ ap (λ c. joined (begin_line q.begun) (map line.Skip q.skips) (entries_lines 1 q.entries) (current_lines (length q.entries + 1) c) (map line.Route q.routes) (map line.Vif q.vifs) (map line.Fate q.fates) (end_line q.ended) ++ l ∷ []) (sym none),
+          ∙ ap (λ c. joined (begin_line q.begun) (map line.Skip q.skips) (entries_lines 1 q.entries) (current_lines (length q.entries + 1) c) (map line.Route q.routes) (map line.Vif q.vifs) (map line.Fate q.fates) (end_line q.ended) ++ l ∷ []) (sym none),
     )
 
 -- a first line of an entry is taken behind the lines of the entry before
@@ -217,7 +215,7 @@ opens s number o e l t k fits within one spelled gives =
     let may : (is_next q number ≡ true) × (with_open (next_of s) o q ≡ t) = when_some (is_next q number) (with_open (next_of s) o q) t found.2 in
     let next : NoTail q × (number ≡ length q.entries + 1) = next_parts q number may.0 in
     let taken : Takes q l (with_open (next_of q) o q) =
-        opened_told q o e l closes.0 closes.2 next.0 fits (within q next.0) one (ap (λ i. current_lines i o) (sym next.1) ∙ spelled) in
+    opened_told q o e l closes.0 closes.2 next.0 fits (within q next.0) one (ap (λ i. current_lines i o) (sym next.1) ∙ spelled) in
     let same : with_open (next_of q) o q ≡ t = ap (λ i. with_open (capped (length i + 1)) o q) closes.1 ∙ may.1 in
     let moved : Takes q l t = subst (λ t. Takes q l t) same taken in
     (moved.0, moved.1 ∙ ap (λ i. i ++ l ∷ []) closes.1)
@@ -240,21 +238,21 @@ adds s number e l t k fits spelled gives =
 grows : (s : State) (o u : Current) (e f : Entry) (l : Line) → s.current ≡ o → Sound s → NoTail s → CurrentFits u → ((q : State) → NoTail q → OpenIn q u)
     → current_entries o ≡ e ∷ [] → current_entries u ≡ f ∷ [] → ((i : ℕ) → current_lines i u ≡ current_lines i o ++ l ∷ []) → Takes s l (record s { current = u })
 grows s o u e f l is k n fits within was one spelled = (
-    record {
-      fresh = λ b. absurd (not_both s.begun n.0 b);
-      open_in = within (record s { current = u }) n;
-      firsts = k.firsts ∙ ap (λ c. first_lines s.skips (s.entries ++ c)) (ap current_entries is ∙ was) ∙ firsts_same (length s.skips + 2) s.entries e f ∙ ap (λ c. first_lines s.skips (s.entries ++ c)) (sym one);
-      each = k.each;
-      current_fits = fits;
-      skips_rise = k.skips_rise;
-      routes_rise = k.routes_rise;
-      vifs_rise = k.vifs_rise;
-    },
-    ap (λ d. joined (begin_line s.begun) (map line.Skip s.skips) (entries_lines 1 s.entries) d (map line.Route s.routes) (map line.Vif s.vifs) (map line.Fate s.fates) (end_line s.ended)) (spelled (length s.entries + 1))
-    ∙ push_d (begin_line s.begun) (map line.Skip s.skips) (entries_lines 1 s.entries) (current_lines (length s.entries + 1) o) (map line.Route s.routes) (map line.Vif s.vifs) (map line.Fate s.fates) (end_line s.ended) (l ∷ [])
-        (ap (map line.Route) n.1) (ap (map line.Vif) n.2) (ap (map line.Fate) n.3) (ap end_line n.4)
-    ∙ ap (λ c. joined (begin_line s.begun) (map line.Skip s.skips) (entries_lines 1 s.entries) (current_lines (length s.entries + 1) c) (map line.Route s.routes) (map line.Vif s.vifs) (map line.Fate s.fates) (end_line s.ended) ++ l ∷ []) (sym is),
-  )
+  record {
+    fresh = λ b. absurd (not_both s.begun n.0 b);
+    open_in = within (record s { current = u }) n;
+    firsts = k.firsts ∙ ap (λ c. first_lines s.skips (s.entries ++ c)) (ap current_entries is ∙ was) ∙ firsts_same (length s.skips + 2) s.entries e f ∙ ap (λ c. first_lines s.skips (s.entries ++ c)) (sym one);
+    each = k.each;
+    current_fits = fits;
+    skips_rise = k.skips_rise;
+    routes_rise = k.routes_rise;
+    vifs_rise = k.vifs_rise;
+  },
+  ap (λ d. joined (begin_line s.begun) (map line.Skip s.skips) (entries_lines 1 s.entries) d (map line.Route s.routes) (map line.Vif s.vifs) (map line.Fate s.fates) (end_line s.ended)) (spelled (length s.entries + 1))
+      ∙ push_d (begin_line s.begun) (map line.Skip s.skips) (entries_lines 1 s.entries) (current_lines (length s.entries + 1) o) (map line.Route s.routes) (map line.Vif s.vifs) (map line.Fate s.fates) (end_line s.ended) (l ∷ [])
+      (ap (map line.Route) n.1) (ap (map line.Vif) n.2) (ap (map line.Fate) n.3) (ap end_line n.4)
+      ∙ ap (λ c. joined (begin_line s.begun) (map line.Skip s.skips) (entries_lines 1 s.entries) (current_lines (length s.entries + 1) c) (map line.Route s.routes) (map line.Vif s.vifs) (map line.Fate s.fates) (end_line s.ended) ++ l ∷ []) (sym is),
+)
 
 five : (n : ℕ) → nat_lt n 4 ≡ true → n + 1 ≤ 4
 five n e = grind arith
@@ -271,8 +269,8 @@ releases s p (current.Call d r reply ps) t is k gives =
     let few : length ps + 1 ≤ 4 = five (length ps) may.0 in
     let more : length (ps ++ p ∷ []) ≡ length ps + 1 = length-append ps (p ∷ []) in
     subst (λ t. Takes s (line.Released p) t) may.1
-      (grows s (current.Call d r reply ps) u (entry.Call d r reply ps) (entry.Call d r reply (ps ++ p ∷ [])) (line.Released p) is k (subst (OpenIn s) is k.open_in)
-        (omega arith) (λ q n. n) refl refl (λ i. ap (λ l. line.Call i d r reply ∷ l) (map-append line.Released ps (p ∷ []))))
+    (grows s (current.Call d r reply ps) u (entry.Call d r reply ps) (entry.Call d r reply (ps ++ p ∷ [])) (line.Released p) is k (subst (OpenIn s) is k.open_in)
+    (omega arith) (λ q n. n) refl refl (λ i. ap (λ l. line.Call i d r reply ∷ l) (map-append line.Released ps (p ∷ []))))
 
 records_told : (s : State) (f : FastRecord) (o : Current) (t : State) → s.current ≡ o → Sound s → recorded s f o ≡ Some t → Takes s (line.Record f) t
 records_told s f current.Nothing t is k gives = absurd (cc gives)
@@ -284,8 +282,8 @@ records_told s f (current.Settle lane records left) t is k gives =
     let more : length (records ++ f ∷ []) ≡ length records + 1 = length-append records (f ∷ []) in
     let same : length (records ++ f ∷ []) + (left - 1) ≡ length records + left = omega arith in
     subst (λ t. Takes s (line.Record f) t) may.1
-      (grows s (current.Settle lane records left) u (entry.Settle lane records) (entry.Settle lane (records ++ f ∷ [])) (line.Record f) is k (subst (OpenIn s) is k.open_in)
-        tt (λ q n. n) refl refl (λ i. ap (λ c. line.Settle i lane c ∷ map line.Record (records ++ f ∷ [])) same ∙ ap (λ l. line.Settle i lane (length records + left) ∷ l) (map-append line.Record records (f ∷ []))))
+    (grows s (current.Settle lane records left) u (entry.Settle lane records) (entry.Settle lane (records ++ f ∷ [])) (line.Record f) is k (subst (OpenIn s) is k.open_in)
+    tt (λ q n. n) refl refl (λ i. ap (λ c. line.Settle i lane c ∷ map line.Record (records ++ f ∷ [])) same ∙ ap (λ l. line.Settle i lane (length records + left) ∷ l) (map-append line.Record records (f ∷ []))))
 
 routes_told : (q : State) (r : RouteLine) (t : State) → Sound q → q.current ≡ current.Nothing → with_route r q ≡ Some t → Takes q (line.Route r) t
 routes_told q r t k none gives =
@@ -297,17 +295,17 @@ routes_told q r t k none gives =
     let n : (q.begun ≡ true) × (q.ended ≡ false) = inside_parts q first.0 in
     subst (λ t. Takes q (line.Route r) t) may.1 (
       record {
-      fresh = λ b. absurd (not_both q.begun n.0 b);
-      open_in = none_open (u) q.current none;
-      firsts = k.firsts;
-      each = k.each;
-      current_fits = k.current_fits;
-      skips_rise = k.skips_rise;
-      routes_rise = rising_push route_follows [] q.routes r k.routes_rise last.1;
-      vifs_rise = k.vifs_rise;
-    },
-      ap (λ l. joined (begin_line q.begun) (map line.Skip q.skips) (entries_lines 1 q.entries) (current_lines (length q.entries + 1) q.current) l (map line.Vif q.vifs)(map line.Fate q.fates)(end_line q.ended)) (map-append line.Route q.routes (r ∷ []))
-      ∙ push_e (begin_line q.begun) (map line.Skip q.skips) (entries_lines 1 q.entries) (current_lines (length q.entries + 1) q.current)(map line.Route q.routes)(map line.Vif q.vifs)(map line.Fate q.fates)(end_line q.ended) (line.Route r ∷ []) (ap (map line.Vif) (empty_nil q.vifs first.1)) (ap (map line.Fate) (empty_nil q.fates more.1)) (ap end_line n.1),
+        fresh = λ b. absurd (not_both q.begun n.0 b);
+        open_in = none_open (u) q.current none;
+        firsts = k.firsts;
+        each = k.each;
+        current_fits = k.current_fits;
+        skips_rise = k.skips_rise;
+        routes_rise = rising_push route_follows [] q.routes r k.routes_rise last.1;
+        vifs_rise = k.vifs_rise;
+      },
+      ap (λ l. joined (begin_line q.begun) (map line.Skip q.skips) (entries_lines 1 q.entries) (current_lines (length q.entries + 1) q.current) l (map line.Vif q.vifs) (map line.Fate q.fates) (end_line q.ended)) (map-append line.Route q.routes (r ∷ []))
+          ∙ push_e (begin_line q.begun) (map line.Skip q.skips) (entries_lines 1 q.entries) (current_lines (length q.entries + 1) q.current) (map line.Route q.routes) (map line.Vif q.vifs) (map line.Fate q.fates) (end_line q.ended) (line.Route r ∷ []) (ap (map line.Vif) (empty_nil q.vifs first.1)) (ap (map line.Fate) (empty_nil q.fates more.1)) (ap end_line n.1),
     )
 
 vifs_told : (q : State) (v : VifLine) (t : State) → Sound q → q.current ≡ current.Nothing → with_vif v q ≡ Some t → Takes q (line.Vif v) t
@@ -319,17 +317,17 @@ vifs_told q v t k none gives =
     let n : (q.begun ≡ true) × (q.ended ≡ false) = inside_parts q first.0 in
     subst (λ t. Takes q (line.Vif v) t) may.1 (
       record {
-      fresh = λ b. absurd (not_both q.begun n.0 b);
-      open_in = none_open (u) q.current none;
-      firsts = k.firsts;
-      each = k.each;
-      current_fits = k.current_fits;
-      skips_rise = k.skips_rise;
-      routes_rise = k.routes_rise;
-      vifs_rise = rising_push vif_follows [] q.vifs v k.vifs_rise last.1;
-    },
-      ap (λ l. joined (begin_line q.begun) (map line.Skip q.skips) (entries_lines 1 q.entries) (current_lines (length q.entries + 1) q.current)(map line.Route q.routes) l (map line.Fate q.fates)(end_line q.ended)) (map-append line.Vif q.vifs (v ∷ []))
-      ∙ push_f (begin_line q.begun) (map line.Skip q.skips) (entries_lines 1 q.entries) (current_lines (length q.entries + 1) q.current)(map line.Route q.routes)(map line.Vif q.vifs)(map line.Fate q.fates)(end_line q.ended) (line.Vif v ∷ []) (ap (map line.Fate) (empty_nil q.fates first.1)) (ap end_line n.1),
+        fresh = λ b. absurd (not_both q.begun n.0 b);
+        open_in = none_open (u) q.current none;
+        firsts = k.firsts;
+        each = k.each;
+        current_fits = k.current_fits;
+        skips_rise = k.skips_rise;
+        routes_rise = k.routes_rise;
+        vifs_rise = rising_push vif_follows [] q.vifs v k.vifs_rise last.1;
+      },
+      ap (λ l. joined (begin_line q.begun) (map line.Skip q.skips) (entries_lines 1 q.entries) (current_lines (length q.entries + 1) q.current) (map line.Route q.routes) l (map line.Fate q.fates) (end_line q.ended)) (map-append line.Vif q.vifs (v ∷ []))
+          ∙ push_f (begin_line q.begun) (map line.Skip q.skips) (entries_lines 1 q.entries) (current_lines (length q.entries + 1) q.current) (map line.Route q.routes) (map line.Vif q.vifs) (map line.Fate q.fates) (end_line q.ended) (line.Vif v ∷ []) (ap (map line.Fate) (empty_nil q.fates first.1)) (ap end_line n.1),
     )
 
 fates_told : (q : State) (f : FateLine) (t : State) → Sound q → q.current ≡ current.Nothing → with_fate f q ≡ Some t → Takes q (line.Fate f) t
@@ -339,17 +337,17 @@ fates_told q f t k none gives =
     let n : (q.begun ≡ true) × (q.ended ≡ false) = inside_parts q may.0 in
     subst (λ t. Takes q (line.Fate f) t) may.1 (
       record {
-      fresh = λ b. absurd (not_both q.begun n.0 b);
-      open_in = none_open (u) q.current none;
-      firsts = k.firsts;
-      each = k.each;
-      current_fits = k.current_fits;
-      skips_rise = k.skips_rise;
-      routes_rise = k.routes_rise;
-      vifs_rise = k.vifs_rise;
-    },
-      ap (λ l. joined (begin_line q.begun) (map line.Skip q.skips) (entries_lines 1 q.entries) (current_lines (length q.entries + 1) q.current)(map line.Route q.routes)(map line.Vif q.vifs) l (end_line q.ended)) (map-append line.Fate q.fates (f ∷ []))
-      ∙ push_g (begin_line q.begun) (map line.Skip q.skips) (entries_lines 1 q.entries) (current_lines (length q.entries + 1) q.current)(map line.Route q.routes)(map line.Vif q.vifs)(map line.Fate q.fates)(end_line q.ended) (line.Fate f ∷ []) (ap end_line n.1),
+        fresh = λ b. absurd (not_both q.begun n.0 b);
+        open_in = none_open (u) q.current none;
+        firsts = k.firsts;
+        each = k.each;
+        current_fits = k.current_fits;
+        skips_rise = k.skips_rise;
+        routes_rise = k.routes_rise;
+        vifs_rise = k.vifs_rise;
+      },
+      ap (λ l. joined (begin_line q.begun) (map line.Skip q.skips) (entries_lines 1 q.entries) (current_lines (length q.entries + 1) q.current) (map line.Route q.routes) (map line.Vif q.vifs) l (end_line q.ended)) (map-append line.Fate q.fates (f ∷ []))
+          ∙ push_g (begin_line q.begun) (map line.Skip q.skips) (entries_lines 1 q.entries) (current_lines (length q.entries + 1) q.current) (map line.Route q.routes) (map line.Vif q.vifs) (map line.Fate q.fates) (end_line q.ended) (line.Fate f ∷ []) (ap end_line n.1),
     )
 
 end_told : (q : State) (t : State) → Sound q → q.current ≡ current.Nothing → with_end q ≡ Some t → Takes q line.End t
@@ -359,17 +357,17 @@ end_told q t k none gives =
     let n : (q.begun ≡ true) × (q.ended ≡ false) = inside_parts q may.0 in
     subst (λ t. Takes q line.End t) may.1 (
       record {
-      fresh = λ b. absurd (not_both q.begun n.0 b);
-      open_in = none_open (u) q.current none;
-      firsts = k.firsts;
-      each = k.each;
-      current_fits = k.current_fits;
-      skips_rise = k.skips_rise;
-      routes_rise = k.routes_rise;
-      vifs_rise = k.vifs_rise;
-    },
-      push_h (begin_line q.begun) (map line.Skip q.skips) (entries_lines 1 q.entries) (current_lines (length q.entries + 1) q.current)(map line.Route q.routes)(map line.Vif q.vifs)(map line.Fate q.fates) (line.End ∷ [])
-      ∙ ap (λ e. joined (begin_line q.begun) (map line.Skip q.skips) (entries_lines 1 q.entries) (current_lines (length q.entries + 1) q.current)(map line.Route q.routes)(map line.Vif q.vifs)(map line.Fate q.fates) e ++ line.End ∷ []) (ap end_line (sym n.1)),
+        fresh = λ b. absurd (not_both q.begun n.0 b);
+        open_in = none_open (u) q.current none;
+        firsts = k.firsts;
+        each = k.each;
+        current_fits = k.current_fits;
+        skips_rise = k.skips_rise;
+        routes_rise = k.routes_rise;
+        vifs_rise = k.vifs_rise;
+      },
+      push_h (begin_line q.begun) (map line.Skip q.skips) (entries_lines 1 q.entries) (current_lines (length q.entries + 1) q.current) (map line.Route q.routes) (map line.Vif q.vifs) (map line.Fate q.fates) (line.End ∷ [])
+          ∙ ap (λ e. joined (begin_line q.begun) (map line.Skip q.skips) (entries_lines 1 q.entries) (current_lines (length q.entries + 1) q.current) (map line.Route q.routes) (map line.Vif q.vifs) (map line.Fate q.fates) e ++ line.End ∷ []) (ap end_line (sym n.1)),
     )
 
 -- Where no entry has begun, none stands in the state.
@@ -397,7 +395,7 @@ skips_told q s t k gives =
     let tail : (q.routes ≡ []) × (q.vifs ≡ []) × (q.fates ≡ []) = tail_parts q more.1 in
     let no_lines : q.lines ≡ [] = empty_nil q.lines first.1 in
     let nothing : (q.entries ≡ []) × (current_entries q.current ≡ []) =
-        append_none q.entries (current_entries q.current) (no_firsts (length q.skips + 2) (q.entries ++ current_entries q.current) (sym k.firsts ∙ no_lines)) in
+    append_none q.entries (current_entries q.current) (no_firsts (length q.skips + 2) (q.entries ++ current_entries q.current) (sym k.firsts ∙ no_lines)) in
     let none : q.current ≡ current.Nothing = none_current q.current nothing.1 in
     subst (λ t. Takes q (line.Skip s) t) may.1 (
       record {
@@ -410,8 +408,8 @@ skips_told q s t k gives =
         routes_rise = k.routes_rise;
         vifs_rise = k.vifs_rise;
       },
-      ap (λ l. joined (begin_line q.begun) l (entries_lines 1 q.entries) (current_lines (length q.entries + 1) q.current) (map line.Route q.routes)(map line.Vif q.vifs)(map line.Fate q.fates)(end_line q.ended)) (map-append line.Skip q.skips (s ∷ []))
-      ∙ push_b (begin_line q.begun) (map line.Skip q.skips) (entries_lines 1 q.entries) (current_lines (length q.entries + 1) q.current)(map line.Route q.routes)(map line.Vif q.vifs)(map line.Fate q.fates)(end_line q.ended) (line.Skip s ∷ [])
+      ap (λ l. joined (begin_line q.begun) l (entries_lines 1 q.entries) (current_lines (length q.entries + 1) q.current) (map line.Route q.routes) (map line.Vif q.vifs) (map line.Fate q.fates) (end_line q.ended)) (map-append line.Skip q.skips (s ∷ []))
+          ∙ push_b (begin_line q.begun) (map line.Skip q.skips) (entries_lines 1 q.entries) (current_lines (length q.entries + 1) q.current) (map line.Route q.routes) (map line.Vif q.vifs) (map line.Fate q.fates) (end_line q.ended) (line.Skip s ∷ [])
           (ap (entries_lines 1) nothing.0) (ap (current_lines (length q.entries + 1)) none) (ap (map line.Route) tail.0) (ap (map line.Vif) tail.1) (ap (map line.Fate) tail.2) (ap end_line n.1),
     )
 
@@ -420,8 +418,8 @@ begins s t k gives =
     let may : (not s.begun ≡ true) × (record s { begun = true } ≡ t) = when_some (not s.begun) (record s { begun = true }) t gives in
     let is : first_state ≡ s = sym (k.fresh (not_true s.begun may.0)) in
     subst (λ t. Takes s line.History t) may.1
-      (subst (λ s. Takes s line.History (record s { begun = true })) is
-        (record { fresh = λ b. absurd (cc b); open_in = tt; firsts = refl; each = tt; current_fits = tt; skips_rise = tt; routes_rise = tt; vifs_rise = tt }, refl))
+    (subst (λ s. Takes s line.History (record s { begun = true })) is
+    (record { fresh = λ b. absurd (cc b); open_in = tt; firsts = refl; each = tt; current_fits = tt; skips_rise = tt; routes_rise = tt; vifs_rise = tt }, refl))
 
 -- A line of the tail is taken behind the lines of the last entry.
 ends : (s : State) (l : Line) (f : State → Option State) (t : State) → Sound s → ((q : State) → Sound q → q.current ≡ current.Nothing → f q ≡ Some t → Takes q l t)

@@ -57,12 +57,11 @@ walk_told takes again [] p s t k e =
     subst (λ t. Walks s t (p ∷ [])) last.1 ([], tt, empty_nil p both.1, sym (append-nil (told s)), k, both.0)
 walk_told takes again (q ∷ qs) p s t k e =
     let found : (u : State) × (line_step (next_of s) s p ≡ Some u) × (walk (next_line (next_of s)) u (q ∷ qs) ≡ Ok t) =
-        bind_ok (next_of s) (line_step (next_of s) s p) (λ u. walk (next_line (next_of s)) u (q ∷ qs)) t e in
+    bind_ok (next_of s) (line_step (next_of s) s p) (λ u. walk (next_line (next_of s)) u (q ∷ qs)) t e in
     let u : State = found.0 in
     let one : (l : Line) × LineFits l × (p ≡ spaced (line_words l)) × Takes s l u = line_told takes again s u p k found.1 in
     let goes : walk (next_of u) u (q ∷ qs) ≡ Ok t = ap (λ i. walk i u (q ∷ qs)) (sym (next_told s u one.0 one.3.1)) ∙ found.2 in
-    let more : Walks u t (q ∷ qs) = walk_told takes again qs q u t one.3.0 goes in
-    (
+    let more : Walks u t (q ∷ qs) = walk_told takes again qs q u t one.3.0 goes in (
       one.0 ∷ more.0,
       (one.1, more.1),
       ap (λ b. p ++ 10 ∷ b) more.2 ∙ ap (λ b. b ++ 10 ∷ flat_map line_text more.0) one.2 ∙ sym (append_assoc (spaced (line_words one.0)) (10 ∷ []) (flat_map line_text more.0)),
@@ -88,7 +87,7 @@ ended_told : (t : State) → Sound t → t.ended ≡ true → told t ≡ text_li
 ended_told t k e =
     let none : t.current ≡ current.Nothing = ended_closed t t.current k.open_in e in
     whole_joined line.History (begin_line t.begun) (map line.Skip t.skips) (entries_lines 1 t.entries) (current_lines (length t.entries + 1) t.current) (map line.Route t.routes) (map line.Vif t.vifs) (map line.Fate t.fates) (end_line t.ended)
-      (ap begin_line (ended_begun t k e)) (ap (current_lines (length t.entries + 1)) none)
+    (ap begin_line (ended_begun t k e)) (ap (current_lines (length t.entries + 1)) none)
     ∙ ap (λ b. line.History ∷ (map line.Skip t.skips ++ entries_lines 1 t.entries ++ (map line.Route t.routes ++ map line.Vif t.vifs ++ map line.Fate t.fates) ++ end_line b)) e
 
 abbrev IsRead : List ℕ → HistoryText → Type 0
@@ -99,8 +98,7 @@ state_read takes again bytes t e =
     let all : Walks first_state t (parts_of 10 bytes) = walk_told takes again (parts_behind 10 bytes) (before 10 bytes) first_state t first_sound e in
     let k : Sound t = all.4 in
     let same : all.0 ≡ text_lines t.skips t.entries (parts t).tail = sym all.3 ∙ ended_told t k all.5 in
-    let none : t.current ≡ current.Nothing = ended_closed t t.current k.open_in all.5 in
-    (
+    let none : t.current ≡ current.Nothing = ended_closed t t.current k.open_in all.5 in (
       record {
         lines = subst (AllByRecursion LineFits) same all.1;
         each = k.each;

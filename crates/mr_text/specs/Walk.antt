@@ -22,6 +22,7 @@ use Rattle.mr_text.specs.Orders.{skip_follows, route_follows, vif_follows}
 use Rattle.mr_words.specs.Binds.{◌>>=◌}
 use Rattle.mr_words.specs.Parts.{parts_of}
 
+-- something, where a test holds
 abbrev pub when : {A : Type 0} → Bool → Option A → Option A
 when test further = if test then further else None
 
@@ -32,9 +33,11 @@ is_empty xs = length xs == 0
 abbrev pub first_state : State
 first_state = record { begun = false; skips = []; entries = []; lines = []; current = current.Nothing; routes = []; vifs = []; fates = []; ended = false }
 
+-- one more entry whose lines have all come
 abbrev pub with_entry : State → Entry → State
 with_entry s e = record s { entries = s.entries ++ e ∷ []; current = current.Nothing }
 
+-- what `closed` gives, by the current entry
 abbrev pub closed_current : State → Current → Option State
 closed_current s current.Nothing = Some s
 closed_current s (current.Call d r reply released) = Some (with_entry s (entry.Call d r reply released))
@@ -74,6 +77,7 @@ with_line n e s = record s { lines = s.lines ++ n ∷ []; entries = s.entries ++
 abbrev pub added_in : ℕ → ℕ → Entry → State → Option State
 added_in n number e s = when (is_next s number) (Some (with_line n e s))
 
+-- an entry of one line
 abbrev pub added : ℕ → ℕ → Entry → State → Option State
 added n number e s = option_and_then (added_in n number e) (closed s)
 
@@ -96,15 +100,19 @@ abbrev pub skipped : State → Skip → Option State
 skipped s k =
     when (is_inside s && is_empty s.lines && has_no_tail s && skip_follows s.skips k) (Some (record s { skips = s.skips ++ k ∷ [] }))
 
+-- a live entry, before the live vifs and the fates
 abbrev pub with_route : RouteLine → State → Option State
 with_route r s = when (is_inside s && is_empty s.vifs && is_empty s.fates && route_follows s.routes r) (Some (record s { routes = s.routes ++ r ∷ [] }))
 
+-- a live vif, before the fates
 abbrev pub with_vif : VifLine → State → Option State
 with_vif v s = when (is_inside s && is_empty s.fates && vif_follows s.vifs v) (Some (record s { vifs = s.vifs ++ v ∷ [] }))
 
+-- the fate of a packet that waited
 abbrev pub with_fate : FateLine → State → Option State
 with_fate f s = when (is_inside s) (Some (record s { fates = s.fates ++ f ∷ [] }))
 
+-- the last line
 abbrev pub with_end : State → Option State
 with_end s = when (is_inside s) (Some (record s { ended = true }))
 
@@ -149,6 +157,7 @@ walk n s [] = Err n
 walk n s (p ∷ []) = last_line n s p
 walk n s (p ∷ q ∷ ps) = line_gives n (line_step n s p) >>= λ t. walk (next_line n) t (q ∷ ps)
 
+-- what was read, without what was needed to read it
 abbrev pub parts : State → HistoryText
 parts s = record {
   skips = s.skips;

@@ -15,7 +15,7 @@ use Rattle.mr_text.specs.Orders.{skip_follows, route_follows, vif_follows}
 use Rattle.mr_text.specs.Text.{entries_lines, tail_lines, text_lines}
 use Rattle.mr_words.specs.Parts.{parts_of}
 
--- Each element may come behind those before it, the elements of `done` first.
+-- Each element may come behind those before it, the elements of `done` first: each one and its next rise.
 abbrev pub Rising : {A : Type 0} → (List A → A → Bool) → List A → List A → Type 0
 Rising follows done [] = Unit
 Rising follows done (x ∷ xs) = (follows done x ≡ true) × Rising follows (done ++ x ∷ []) xs
@@ -59,6 +59,7 @@ current_lines n current.Nothing = []
 current_lines n (current.Call d r reply released) = line.Call n d r reply ∷ map line.Released released
 current_lines n (current.Settle lane records left) = line.Settle n lane (length records + left) ∷ map line.Record records
 
+-- the first line, if it has come, and the last
 abbrev pub begin_line : Bool → List Line
 begin_line true = line.History ∷ []
 begin_line false = []

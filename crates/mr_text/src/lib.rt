@@ -8,6 +8,8 @@ mod reading;
 mod reading_state;
 mod steps;
 mod stub;
+#[cfg(test)]
+mod tests;
 
 pub use history_text::{HistoryText, TextError};
 pub use laws::{none_begins, one_text, read_is_text, text_is_read};

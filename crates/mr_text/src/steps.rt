@@ -130,6 +130,7 @@ pub fn record(line: u32, state: &mut State, fast: FastRecord) -> Result<(), Text
     }
 }
 
+/// A skip, before the entries.
 fn skip(line: u32, state: &mut State, skip: Skip) -> Result<(), TextError>
     ensures { Steps result line state.new (skipped state.old skip) }
 {
@@ -144,6 +145,7 @@ fn skip(line: u32, state: &mut State, skip: Skip) -> Result<(), TextError>
     Ok(())
 }
 
+/// A live entry, behind the last entry of the history.
 fn route(line: u32, state: &mut State, route: RouteLine) -> Result<(), TextError>
     ensures { Steps result line state.new (option_and_then (with_route route) (closed state.old)) }
 {
@@ -159,6 +161,7 @@ fn route(line: u32, state: &mut State, route: RouteLine) -> Result<(), TextError
     Ok(())
 }
 
+/// A live vif, behind the live entries.
 fn vif(line: u32, state: &mut State, vif: VifLine) -> Result<(), TextError>
     ensures { Steps result line state.new (option_and_then (with_vif vif) (closed state.old)) }
 {
@@ -173,6 +176,7 @@ fn vif(line: u32, state: &mut State, vif: VifLine) -> Result<(), TextError>
     Ok(())
 }
 
+/// The fate of a packet that waited, behind the live vifs.
 fn fate(line: u32, state: &mut State, fate: FateLine) -> Result<(), TextError>
     ensures { Steps result line state.new (option_and_then (with_fate fate) (closed state.old)) }
 {
@@ -184,6 +188,7 @@ fn fate(line: u32, state: &mut State, fate: FateLine) -> Result<(), TextError>
     Ok(())
 }
 
+/// The last line.
 fn end(line: u32, state: &mut State) -> Result<(), TextError>
     ensures { Steps result line state.new (option_and_then with_end (closed state.old)) }
 {
@@ -195,6 +200,7 @@ fn end(line: u32, state: &mut State) -> Result<(), TextError>
     Ok(())
 }
 
+/// The first line.
 fn begin(line: u32, state: &mut State) -> Result<(), TextError>
     ensures { Steps result line state.new (begun state.old) }
 {

@@ -6,14 +6,14 @@ ghost use Rattle.mr_words.specs.Parts.{parts_of};
 use mr_lines::Line;
 use mr_model::FastRecord;
 
-pub fn read_line(line: &[u8]) -> Option<Line>
-    ensures { result ≡ line_of (parts_of 32 line.now) }
+pub fn read_line(bytes: &[u8]) -> Option<Line>
+    ensures { result ≡ line_of (parts_of 32 bytes.now) }
 {
     None
 }
 
-pub fn read_record(line: &[u8]) -> Option<FastRecord>
-    ensures { IfSome result (λ r. line_of (parts_of 32 line.now) ≡ Some (line.Record r)) }
+pub fn read_record(bytes: &[u8]) -> Option<FastRecord>
+    ensures { IfSome result (λ r. line_of (parts_of 32 bytes.now) ≡ Some (line.Record r)) }
 {
     None
 }
