@@ -1,2 +1,11 @@
 pub mod WritingLemmas
 pub mod RowLemmas
+pub mod FieldLaws
+pub mod PartLaws
+pub mod NumberLaws
+pub mod WordLaws
+pub mod MaskLaws
+pub mod ItemLaws
+pub mod FormLaws
+pub mod RequestLaws
+pub mod LineLaws

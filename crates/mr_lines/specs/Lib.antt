@@ -1,4 +1,8 @@
 pub mod Forms
 pub mod Lines
+pub mod Fit
+pub mod Fields
+pub mod Words
 pub mod Reading
 pub mod Written
+pub mod Laws

@@ -1,6 +1,7 @@
 //! The lines of a history's text: what each says, its words, and both ways between them.
 #![tactic(auto)]
 
+pub mod laws;
 mod line;
 mod skip;
 mod tail;

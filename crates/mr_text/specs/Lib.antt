@@ -1,3 +1,6 @@
 pub mod Text
 pub mod Orders
 pub mod Walk
+pub mod Whole
+pub mod Laws
+pub mod Answers

@@ -4,6 +4,7 @@ use Rattle.mr_lines.specs.declared.skip.Skip.{Skip}
 use Rattle.mr_lines.specs.declared.tail.RouteLine.{RouteLine}
 use Rattle.mr_lines.specs.declared.tail.VifLine.{VifLine}
 
+-- by lane, and then by item
 abbrev pub is_before : Skip → Skip → Bool
 is_before a b = nat_lt a.lane.0 b.lane.0 || (a.lane.0 == b.lane.0 && nat_lt a.index b.index)
 
@@ -16,6 +17,7 @@ abbrev pub comes_behind : {A : Type 0} → (A → A → Bool) → Option A → A
 comes_behind before None x = true
 comes_behind before (Some last) x = before last x
 
+-- what may come behind the skips, route lines and vif lines before it
 abbrev pub skip_follows : List Skip → Skip → Bool
 skip_follows skips s = comes_behind is_before (last_of skips) s
 

@@ -7,13 +7,13 @@ use Rattle.mr_lines.specs.declared.line.Line.TheVariants as line
 use Rattle.mr_lines.specs.declared.tail.RouteLine.{RouteLine}
 use Rattle.mr_lines.specs.declared.tail.VifLine.{VifLine}
 use Rattle.mr_lines.specs.declared.skip.Skip.{Skip}
+use Rattle.mr_lines.specs.Fit.{no_flow}
 use Rattle.mr_lines.specs.Reading.{line_of}
 use Rattle.mr_model.specs.declared.ending.FateLine.{FateLine}
 use Rattle.mr_model.specs.declared.entry.Entry.{Entry}
 use Rattle.mr_model.specs.declared.entry.Entry.TheVariants as entry
 use Rattle.mr_model.specs.declared.entry.FastRecord.{FastRecord}
 use Rattle.mr_model.specs.declared.entry.ReleasedId.{ReleasedId}
-use Rattle.mr_model.specs.declared.flow.Flow.{Flow}
 use Rattle.mr_text.specs.declared.history_text.HistoryText.{HistoryText}
 use Rattle.mr_text.specs.declared.reading_state.Current.{Current}
 use Rattle.mr_text.specs.declared.reading_state.Current.TheVariants as current
@@ -22,6 +22,7 @@ use Rattle.mr_text.specs.Orders.{skip_follows, route_follows, vif_follows}
 use Rattle.mr_words.specs.Binds.{◌>>=◌}
 use Rattle.mr_words.specs.Parts.{parts_of}
 
+-- something, where a test holds
 abbrev pub when : {A : Type 0} → Bool → Option A → Option A
 when test further = if test then further else None
 
@@ -32,13 +33,11 @@ is_empty xs = length xs == 0
 abbrev pub first_state : State
 first_state = record { begun = false; skips = []; entries = []; lines = []; current = current.Nothing; routes = []; vifs = []; fates = []; ended = false }
 
--- the flow of a packet in a text, where it is not printed
-abbrev pub no_flow : Flow
-no_flow = record { dev = 0; src = record { 0 = 0 }; dst = record { 0 = 0 }; ttl = 0; length = 0 }
-
+-- one more entry whose lines have all come
 abbrev pub with_entry : State → Entry → State
 with_entry s e = record s { entries = s.entries ++ e ∷ []; current = current.Nothing }
 
+-- what `closed` gives, by the current entry
 abbrev pub closed_current : State → Current → Option State
 closed_current s current.Nothing = Some s
 closed_current s (current.Call d r reply released) = Some (with_entry s (entry.Call d r reply released))
@@ -78,6 +77,7 @@ with_line n e s = record s { lines = s.lines ++ n ∷ []; entries = s.entries ++
 abbrev pub added_in : ℕ → ℕ → Entry → State → Option State
 added_in n number e s = when (is_next s number) (Some (with_line n e s))
 
+-- an entry of one line
 abbrev pub added : ℕ → ℕ → Entry → State → Option State
 added n number e s = option_and_then (added_in n number e) (closed s)
 
@@ -91,25 +91,34 @@ abbrev pub recorded : State → FastRecord → Current → Option State
 recorded s f (current.Settle lane records left) = when (nat_lt 0 left) (Some (record s { current = current.Settle lane (records ++ f ∷ []) (left - 1) }))
 recorded s f _ = None
 
+-- `history 1`, before any other line
+abbrev pub begun : State → Option State
+begun s = when (not s.begun) (Some (record s { begun = true }))
+
+-- a skip, before the entries, behind those that it follows
 abbrev pub skipped : State → Skip → Option State
 skipped s k =
     when (is_inside s && is_empty s.lines && has_no_tail s && skip_follows s.skips k) (Some (record s { skips = s.skips ++ k ∷ [] }))
 
+-- a live entry, before the live vifs and the fates
 abbrev pub with_route : RouteLine → State → Option State
 with_route r s = when (is_inside s && is_empty s.vifs && is_empty s.fates && route_follows s.routes r) (Some (record s { routes = s.routes ++ r ∷ [] }))
 
+-- a live vif, before the fates
 abbrev pub with_vif : VifLine → State → Option State
 with_vif v s = when (is_inside s && is_empty s.fates && vif_follows s.vifs v) (Some (record s { vifs = s.vifs ++ v ∷ [] }))
 
+-- the fate of a packet that waited
 abbrev pub with_fate : FateLine → State → Option State
 with_fate f s = when (is_inside s) (Some (record s { fates = s.fates ++ f ∷ [] }))
 
+-- the last line
 abbrev pub with_end : State → Option State
 with_end s = when (is_inside s) (Some (record s { ended = true }))
 
 -- What line n leaves of the state; none where it may not come.
 abbrev pub step : ℕ → State → Line → Option State
-step n s line.History = when (not s.begun) (Some (record s { begun = true }))
+step n s line.History = begun s
 step n s (line.Skip k) = skipped s k
 step n s (line.Call number d r reply) = opened n number (current.Call d r reply []) s
 step n s (line.Released p) = released s p s.current
@@ -148,6 +157,7 @@ walk n s [] = Err n
 walk n s (p ∷ []) = last_line n s p
 walk n s (p ∷ q ∷ ps) = line_gives n (line_step n s p) >>= λ t. walk (next_line n) t (q ∷ ps)
 
+-- what was read, without what was needed to read it
 abbrev pub parts : State → HistoryText
 parts s = record {
   skips = s.skips;

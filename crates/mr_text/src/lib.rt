@@ -2,8 +2,17 @@
 #![tactic(auto)]
 
 mod history_text;
+mod laws;
+mod orders;
+mod reading;
 mod reading_state;
+mod steps;
+mod stub;
+#[cfg(test)]
+mod tests;
 mod writing;
 
 pub use history_text::{HistoryText, TextError};
-pub use writing::write_history;
+pub use laws::{none_begins, one_text, read_is_text, text_is_read};
+pub use reading::read_history;
+pub use writing::{write_entry, write_history, write_skips, write_tail};

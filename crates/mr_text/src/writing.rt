@@ -14,7 +14,7 @@ use mr_model::{Entry, FastRecord, FateLine, ReleasedId, Reply, Request};
 use std::alloc::{AllocError, Global};
 
 /// The lines of the items that are no packets.
-fn write_skips(out: &mut Vec<u8>, skips: &[Skip]) -> Result<(), AllocError>
+pub fn write_skips(out: &mut Vec<u8>, skips: &[Skip]) -> Result<(), AllocError>
     ensures { OnOk result (out.new.items ≡ out.old.items ++ flat_map line_text (map line.Skip skips.now)) }
 {
     for skip in skips {
@@ -74,7 +74,7 @@ fn write_settle_lines(
 }
 
 /// The lines of an entry.
-fn write_entry(out: &mut Vec<u8>, number: u64, entry: &Entry) -> Result<(), AllocError>
+pub fn write_entry(out: &mut Vec<u8>, number: u64, entry: &Entry) -> Result<(), AllocError>
     ensures { OnOk result (out.new.items ≡ out.old.items ++ flat_map line_text (entry_lines number entry.now)) }
 {
     match entry {
@@ -143,7 +143,7 @@ fn write_fates(out: &mut Vec<u8>, fates: &[FateLine]) -> Result<(), AllocError>
 }
 
 /// The lines of the tail.
-fn write_tail(out: &mut Vec<u8>, tail: &Tail) -> Result<(), AllocError>
+pub fn write_tail(out: &mut Vec<u8>, tail: &Tail) -> Result<(), AllocError>
     ensures { OnOk result (out.new.items ≡ out.old.items ++ flat_map line_text (tail_lines tail.now)) }
 {
     write_routes(out, tail.routes.0.as_slice())?;

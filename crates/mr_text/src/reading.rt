@@ -1,0 +1,99 @@
+//! A history is read from its text.
+
+ghost use Rattle.std.specs.Prelude.{◌≡◌, IfOk};
+ghost use Rattle.mr_text.specs.Answers.{Gives, Steps};
+ghost use Rattle.mr_text.specs.Text.{text};
+ghost use Rattle.mr_text.specs.Walk.{first_state, last_line, line_step, parts_result, walked};
+ghost use Rattle.mr_text.specs.Whole.{PartsFit, first_lines};
+
+use crate::history_text::{HistoryText, TextError};
+use crate::reading_state::{Current, State};
+use crate::steps::{record, step};
+use crate::stub::{read_line, read_record};
+use mr_base::List;
+use mr_lines::Tail;
+use mr_words::split_part;
+use std::alloc::Global;
+
+/// Before the first line.
+fn first_state(alloc: Global) -> State
+    ensures { result ≡ first_state }
+{
+    State {
+        begun: false,
+        skips: List(Vec::new(alloc)),
+        entries: List(Vec::new(alloc)),
+        lines: List(Vec::new(alloc)),
+        current: Current::Nothing,
+        routes: List(Vec::new(alloc)),
+        vifs: List(Vec::new(alloc)),
+        fates: List(Vec::new(alloc)),
+        ended: false,
+    }
+}
+
+/// Whether the next line has to be a record.
+fn is_record_due(state: &State) -> bool {
+    match &state.current {
+        Current::Settle { left, .. } => *left > 0,
+        _ => false,
+    }
+}
+
+/// What the bytes of a line do. Records are the most of all lines, so they are pushed as they are read.
+fn take_line(alloc: Global, line: u32, state: &mut State, bytes: &[u8]) -> Result<(), TextError>
+    ensures { Steps result line state.new (line_step line state.old bytes.now) }
+{
+    if is_record_due(state) {
+        if let Some(fast) = read_record(bytes) {
+            return record(line, state, fast);
+        }
+    }
+    match read_line(bytes) {
+        None => Err(TextError::Line(line)),
+        Some(read) => step(alloc, line, state, read),
+    }
+}
+
+/// The parts, where `end` was the last line and no byte stands behind its line feed.
+fn whole(line: u32, state: State, bytes: &[u8]) -> Result<HistoryText, TextError>
+    ensures { Gives result (parts_result (last_line line state bytes.now)) }
+{
+    if state.ended && bytes.len() == 0 {
+        Ok(HistoryText {
+            skips: state.skips,
+            entries: state.entries,
+            tail: Tail {
+                routes: state.routes,
+                vifs: state.vifs,
+                fates: state.fates,
+            },
+            lines: state.lines,
+        })
+    } else {
+        Err(TextError::Line(line))
+    }
+}
+
+/// Reads the text of a history: its parts, whose text is just these bytes.
+///
+/// Errors: `Line` with the first line outside the grammar, or one more than the number of whole lines where
+/// the text ends before `end`, or where its last line has no line feed; `Memory`.
+pub fn read_history(alloc: Global, bytes: &[u8]) -> Result<HistoryText, TextError>
+    ensures exact { Gives result (walked bytes.now) }
+    ensures found { IfOk result (λ t. PartsFit t.skips t.entries t.tail × (bytes.now ≡ text t.skips t.entries t.tail) × (t.lines ≡ first_lines t.skips t.entries)) }
+{
+    let mut state = first_state(alloc);
+    let mut line = 1u32;
+    let mut rest = bytes;
+    'lines: loop {
+        match split_part(rest, b'\n') {
+            (piece, None) => return whole(line, state, piece),
+            (piece, Some(after)) => {
+                take_line(alloc, line, &mut state, piece)?;
+                line = line.saturating_add(1);
+                rest = after;
+            }
+        }
+    }
+}
