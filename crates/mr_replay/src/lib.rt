@@ -7,6 +7,7 @@ mod granting;
 mod halt;
 mod journal;
 mod machine;
+mod playing;
 mod route_list;
 mod status;
 mod totals;
