@@ -12,3 +12,8 @@ pub mod LawLimits
 pub mod LawLanes
 pub mod LawPhases
 pub mod LawFates
+pub mod Finishing
+pub mod Holding
+pub mod Keeping
+pub mod Packeting
+pub mod TableLemmas

@@ -1,11 +1,12 @@
 -- What the machine keeps, and what a run of it gives.
-use Rattle.std.specs.Prelude.{◌≡◌, ◌≤◌, ◌<◌, ◌+◌, ◌*◌, ℕ, false, Bool, true, Option, None, Result, Ok, Err, List, [], ◌∷◌, length, map, find, ◌==◌, if◌then◌else◌}
+use Rattle.std.specs.Prelude.{◌≡◌, ◌≤◌, ◌<◌, ◌+◌, ◌*◌, ℕ, false, Bool, true, Option, None, Result, Ok, Err, List, [], ◌∷◌, ◌++◌, length, map, sum_by, find, ◌==◌, if◌then◌else◌}
 use Rattle.std.specs.List.{AllByRecursion, list_any}
 use Rattle.mr_base.specs.declared.numbers.DaemonNo.{DaemonNo}
 use Rattle.mr_base.specs.declared.numbers.Mask.{Mask}
 use Rattle.mr_base.specs.declared.route.Route.{Route}
 use Rattle.mr_base.specs.declared.vif_record.VifRecord.{VifRecord}
 use Rattle.mr_model.specs.declared.entry.Entry.{Entry}
+use Rattle.mr_model.specs.declared.entry.Entry.TheVariants.{EndPhase}
 use Rattle.mr_model.specs.declared.limits.Limits.{Limits}
 use Rattle.mr_model.specs.declared.reply.RouteTotals.{RouteTotals}
 use Rattle.mr_model.specs.declared.reply.VifTotals.{VifTotals}
@@ -15,10 +16,16 @@ use Rattle.mr_model.specs.Counts.{Met, met, route_sums, vif_sums}
 use Rattle.mr_model.specs.State.{State, state}
 use Rattle.mr_model.specs.Verdict.{is_in, is_vif}
 use Rattle.mr_replay.specs.declared.machine.Machine.{Machine}
+use Rattle.mr_scenario.specs.declared.scenario.Item.{Item}
 use Rattle.mr_scenario.specs.declared.scenario.Phase.{Phase}
+use Rattle.mr_scenario.specs.declared.scenario.ScriptLine.{ScriptLine}
+use Rattle.mr_scenario.specs.Fits.{packets_in}
 use Rattle.mr_replay.specs.declared.halt.Halt.{Halt}
 use Rattle.mr_replay.specs.declared.halt.Halt.TheVariants as halt
 use Rattle.mr_replay.specs.Built.{AllBuilt}
+use Rattle.mr_replay.specs.Made.{items_of}
+use Rattle.mr_replay.specs.Played.{lines_of, play_daemons, play_items}
+use Rattle.mr_words.specs.Binds.{◌>>=◌}
 
 -- the state of a machine with n entries: nothing waits, no report is unread, and no time goes by
 abbrev pub tables : ℕ → Option DaemonNo → List VifRecord → List Route → State
@@ -120,13 +127,47 @@ routes_set vifs c fixed number routes =
 abbrev pub totals_set : MfcCtl → List Route → List RouteTotals → List RouteTotals
 totals_set c routes totals = if list_any (is_named c.src c.dst None) routes then totals else no_route_totals ∷ totals
 
--- how many entries a phase makes
+-- how many entries the lines of these daemons make at most
+abbrev pub daemons_cost : List ScriptLine → List ℕ → ℕ
+daemons_cost ls [] = 0
+daemons_cost ls (d ∷ ds) = length (lines_of d ls) + daemons_cost ls ds
+
+-- how many packets a lane has among items, refused heads included
+abbrev pub lane_cost : ℕ → List Item → ℕ
+lane_cost lane [] = 0
+lane_cost lane (i ∷ is) = if i.lane.0 == lane then packets_in i.given + lane_cost lane is else lane_cost lane is
+
+-- how many entries the lanes from this one on make at most; each has its next item's number
+abbrev pub lanes_cost : ℕ → List ℕ → List Item → ℕ
+lanes_cost lane [] is = 0
+lanes_cost lane (n ∷ ns) is = lane_cost lane is + lanes_cost (lane + 1) ns is
+
+-- how many entries a phase makes at most
 abbrev pub cost : Phase → ℕ
-cost p = length p.script + length p.items + 1
+cost p = length p.script + sum_by (λ i. packets_in i.given) p.items + 1
 
 abbrev pub costs : List Phase → ℕ
 costs [] = 0
 costs (p ∷ ps) = cost p + costs ps
+
+-- the numbers of the next items of the lanes from this one on, once these items are behind them
+abbrev pub numbers_behind : ℕ → List ℕ → List Item → List ℕ
+numbers_behind lane [] is = []
+numbers_behind lane (n ∷ ns) is = (n + items_of lane is) ∷ numbers_behind (lane + 1) ns is
+
+-- the lanes from this one on, each with its items from its next number on
+abbrev pub run_lanes : Limits → List Entry → ℕ → List ℕ → List Item → Result (List Entry) ℕ
+run_lanes limits h lane [] is = Ok h
+run_lanes limits h lane (n ∷ ns) is = play_items limits h lane n is >>= λ g. run_lanes limits g (lane + 1) ns is
+
+-- a phase of these daemons and of lanes with these next numbers
+abbrev pub run_phase : Limits → List Entry → List ℕ → List ℕ → Phase → Result (List Entry) ℕ
+run_phase limits h ds ns p =
+    play_daemons limits h p.script ds >>= λ g. run_lanes limits g 1 ns p.items >>= λ k. Ok (k ++ EndPhase ∷ [])
+
+abbrev pub run_phases : Limits → List Entry → List ℕ → List ℕ → List Phase → Result (List Entry) ℕ
+run_phases limits h ds ns [] = Ok h
+run_phases limits h ds ns (p ∷ ps) = run_phase limits h ds ns p >>= λ g. run_phases limits g ds (numbers_behind 1 ns p.items) ps
 
 -- one packet of so many bytes more, where it counts
 abbrev pub route_with : Bool → ℕ → RouteTotals → RouteTotals

@@ -1,14 +1,21 @@
 //! The top call: a scenario is read, run and written as its history.
 #![tactic(auto)]
 
+mod decide;
+mod ended;
+mod granting;
 mod halt;
 mod journal;
 mod laws;
 mod loading;
 mod machine;
+mod playing;
+mod route_list;
 mod skips;
 mod status;
+mod totals;
 mod unbuilt;
+mod vif_list;
 
 pub use laws::{built_fates, played_is_legal};
 pub use loading::Loaded;

@@ -1,5 +1,5 @@
-use mr_base::{DaemonNo, Route, VifRecord};
 use crate::journal::Journal;
+use mr_base::{DaemonNo, Route, VifRecord};
 use mr_model::{Limits, RouteTotals, VifTotals};
 
 /// The machine that runs a scenario on one thread.
