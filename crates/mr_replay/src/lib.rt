@@ -16,6 +16,7 @@ mod status;
 mod totals;
 mod unbuilt;
 mod vif_list;
+mod writing;
 
 pub use laws::{built_fates, played_is_legal};
 pub use loading::Loaded;
