@@ -3,6 +3,8 @@
 
 mod history_text;
 mod reading_state;
+#[cfg(test)]
+mod tests_writing;
 mod writing;
 
 pub use history_text::{HistoryText, TextError};
