@@ -16,7 +16,8 @@ use mr_base::{DaemonNo, LaneNo};
 use mr_model::{FateLine, MessageId, Outcome, ReleasedId, Reply, Request};
 use std::alloc::AllocError;
 
-/// Puts `history 1`, the first line.
+/// Puts `history 1`, the first line. Without memory for all of it the answer is `AllocError`,
+/// and a part of it may stand.
 pub fn write_first(out: &mut Vec<u8>) -> Result<(), AllocError>
     ensures { OnOk result (out.new.items ≡ out.old.items ++ line_bytes (line_words line.History)) }
 {
@@ -24,7 +25,8 @@ pub fn write_first(out: &mut Vec<u8>) -> Result<(), AllocError>
     Ok(())
 }
 
-/// Puts `end`, the last line.
+/// Puts `end`, the last line. Without memory for all of it the answer is `AllocError`,
+/// and a part of it may stand.
 pub fn write_end(out: &mut Vec<u8>) -> Result<(), AllocError>
     ensures { OnOk result (out.new.items ≡ out.old.items ++ line_bytes (line_words line.End)) }
 {
@@ -32,7 +34,8 @@ pub fn write_end(out: &mut Vec<u8>) -> Result<(), AllocError>
     Ok(())
 }
 
-/// Puts the line of an item that is no packet.
+/// Puts the line of an item that is no packet. Without memory for all of it the answer is `AllocError`,
+/// and a part of it may stand.
 pub fn write_skip(out: &mut Vec<u8>, skip: &Skip) -> Result<(), AllocError>
     ensures { OnOk result (out.new.items ≡ out.old.items ++ line_bytes (line_words (line.Skip skip.now))) }
 {
@@ -61,7 +64,8 @@ fn write_call_words(
     Ok(())
 }
 
-/// Puts the first line of a call.
+/// Puts the first line of a call. Without memory for all of it the answer is `AllocError`,
+/// and a part of it may stand.
 pub fn write_call(
     out: &mut Vec<u8>,
     number: u64,
@@ -77,7 +81,8 @@ pub fn write_call(
     Ok(())
 }
 
-/// Puts the line of a packet that a call released.
+/// Puts the line of a packet that a call released. Without memory for all of it the answer is `AllocError`,
+/// and a part of it may stand.
 pub fn write_released(out: &mut Vec<u8>, released: &ReleasedId) -> Result<(), AllocError>
     ensures { OnOk result (out.new.items ≡ out.old.items ++ line_bytes (line_words (line.Released released.now))) }
 {
@@ -107,7 +112,8 @@ fn write_slow_words(
     Ok(())
 }
 
-/// Puts the line of a packet that was decided under the lock.
+/// Puts the line of a packet that was decided under the lock. Without memory for all of it the answer is `AllocError`,
+/// and a part of it may stand.
 pub fn write_slow(
     out: &mut Vec<u8>,
     number: u64,
@@ -124,7 +130,8 @@ pub fn write_slow(
     Ok(())
 }
 
-/// Puts the first line of a settle of `count` records.
+/// Puts the first line of a settle of `count` records. Without memory for all of it the answer is `AllocError`,
+/// and a part of it may stand.
 pub fn write_settle(
     out: &mut Vec<u8>,
     number: u64,
@@ -141,7 +148,8 @@ pub fn write_settle(
     Ok(())
 }
 
-/// Puts the line of a tick.
+/// Puts the line of a tick. Without memory for all of it the answer is `AllocError`,
+/// and a part of it may stand.
 pub fn write_tick(
     out: &mut Vec<u8>,
     number: u64,
@@ -158,7 +166,8 @@ pub fn write_tick(
     Ok(())
 }
 
-/// Puts the line of what a daemon received.
+/// Puts the line of what a daemon received. Without memory for all of it the answer is `AllocError`,
+/// and a part of it may stand.
 pub fn write_recv(
     out: &mut Vec<u8>,
     number: u64,
@@ -175,7 +184,8 @@ pub fn write_recv(
     Ok(())
 }
 
-/// Puts the line at which a phase ends.
+/// Puts the line at which a phase ends. Without memory for all of it the answer is `AllocError`,
+/// and a part of it may stand.
 pub fn write_phase(out: &mut Vec<u8>, number: u64) -> Result<(), AllocError>
     ensures { OnOk result (out.new.items ≡ out.old.items ++ line_bytes (line_words (line.Phase number))) }
 {
@@ -184,7 +194,8 @@ pub fn write_phase(out: &mut Vec<u8>, number: u64) -> Result<(), AllocError>
     Ok(())
 }
 
-/// Puts the line of a live entry.
+/// Puts the line of a live entry. Without memory for all of it the answer is `AllocError`,
+/// and a part of it may stand.
 pub fn write_route(out: &mut Vec<u8>, route: &RouteLine) -> Result<(), AllocError>
     ensures { OnOk result (out.new.items ≡ out.old.items ++ line_bytes (line_words (line.Route route.now))) }
 {
@@ -198,7 +209,8 @@ pub fn write_route(out: &mut Vec<u8>, route: &RouteLine) -> Result<(), AllocErro
     Ok(())
 }
 
-/// Puts the line of a live vif.
+/// Puts the line of a live vif. Without memory for all of it the answer is `AllocError`,
+/// and a part of it may stand.
 pub fn write_vif(out: &mut Vec<u8>, vif: &VifLine) -> Result<(), AllocError>
     ensures { OnOk result (out.new.items ≡ out.old.items ++ line_bytes (line_words (line.Vif vif.now))) }
 {
@@ -211,7 +223,8 @@ pub fn write_vif(out: &mut Vec<u8>, vif: &VifLine) -> Result<(), AllocError>
     Ok(())
 }
 
-/// Puts the line of the fate of a packet.
+/// Puts the line of the fate of a packet. Without memory for all of it the answer is `AllocError`,
+/// and a part of it may stand.
 pub fn write_fate(out: &mut Vec<u8>, fate: &FateLine) -> Result<(), AllocError>
     ensures { OnOk result (out.new.items ≡ out.old.items ++ line_bytes (line_words (line.Fate fate.now))) }
 {

@@ -34,7 +34,8 @@ fn put_record(row: &mut [u8; 144], packet: &FastRecord) -> usize
     index - 1
 }
 
-/// Puts the line of a packet that was forwarded without the lock.
+/// Puts the line of a packet that was forwarded without the lock. Without memory for all of it the answer is `AllocError`,
+/// and a part of it may stand.
 pub fn write_record(out: &mut Vec<u8>, packet: &FastRecord) -> Result<(), AllocError>
     ensures { OnOk result (out.new.items ≡ out.old.items ++ line_bytes (line_words (line.Record packet.now))) }
 {

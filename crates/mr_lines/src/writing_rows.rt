@@ -1,4 +1,5 @@
-//! Words that are put in front of what stands in an array, so that a line grows from its end.
+//! Words that are put in front of what stands in an array, so that a line grows from its end. The array has room for the longest
+//! line of a record, whose mask may name all 32 vifs.
 
 ghost use Rattle.std.specs.Prelude.{◌≡◌, ◌+◌, ◌^◌, ◌<◌, ◌≤◌, ◌++◌, ◌∷◌, [], if◌then◌else◌, length, drop, flat_map, filter, decimal};
 ghost use Rattle.mr_model.specs.Ending.{indexes};

@@ -10,6 +10,8 @@ mod steps;
 mod stub;
 #[cfg(test)]
 mod tests;
+#[cfg(test)]
+mod tests_writing;
 mod writing;
 
 pub use history_text::{HistoryText, TextError};
