@@ -2,7 +2,10 @@
 #![tactic(auto)]
 
 mod boxed_name;
+mod counting;
 mod draft;
+mod forms;
+mod hex;
 mod scenario;
 mod stop;
 
