@@ -63,17 +63,16 @@ pub fn hex_word(alloc: Global, word: &[u8]) -> Result<List<u8>, Stop>
     if word.len() > 131_070 {
         return Err(bad_hex(word));
     }
-    let mut bytes = Vec::with_capacity(alloc, word.len() / 2)?;
-    let mut rest = word;
-    'pairs: while let [high, low, after @ ..] = rest {
-        let Some(byte) = byte_of(*high, *low) else {
+    if word.len() % 2 != 0 {
+        return Err(bad_hex(word));
+    }
+    let (pairs, _) = word.as_chunks::<2>();
+    let mut bytes = Vec::with_capacity(alloc, pairs.len())?;
+    for pair in pairs {
+        let Some(byte) = byte_of(pair[0], pair[1]) else {
             return Err(bad_hex(word));
         };
         bytes.push_reserved(byte);
-        rest = after;
-    }
-    if !rest.is_empty() {
-        return Err(bad_hex(word));
     }
     Ok(List(bytes))
 }
