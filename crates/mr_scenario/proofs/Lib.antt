@@ -1,1 +1,5 @@
 pub mod Each
+pub mod Pairs
+pub mod Clean
+pub mod Binds
+pub mod FitsDraft

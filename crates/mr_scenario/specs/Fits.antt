@@ -1,7 +1,6 @@
 -- What a scenario that was read keeps: it fits its own limits, and those of the machine.
-use Rattle.std.specs.Prelude.{◌≡◌, ◌≤◌, ◌+◌, ℕ, Bool, true, false, List, length, map, replicate, sum_by}
+use Rattle.std.specs.Prelude.{◌≡◌, ◌≤◌, ℕ, List, length, map, replicate, sum_by}
 use Rattle.std.specs.List.{AllByRecursion}
-use Rattle.mr_scenario.specs.PhaseLines.{is_smc_at}
 use Rattle.mr_scenario.specs.Spelled.{is_admin_kind, address_only}
 use Rattle.mr_scenario.specs.declared.scenario.Given.{Given}
 use Rattle.mr_scenario.specs.declared.scenario.Given.TheVariants.{Bytes, Trace}

@@ -1,7 +1,7 @@
 -- The forms of single words: devices, local fields, thresholds, hex digits.
 use Rattle.std.specs.Prelude.{ℕ, ◌+◌, ◌-◌, ◌*◌, ◌==◌, ◌&&◌, Bool, true, false, nat_le, if◌then◌else◌, Option, Some, None, option_and_then, Result, Ok, Err, List, [], ◌∷◌, length, bytes_eq, codes, slice_index_or, slice_set}
 use Rattle.std.specs.List.{list_any}
-use Rattle.mr_scenario.specs.Kinds.{bad, or_bad, word_as}
+use Rattle.mr_scenario.specs.Kinds.{word_as}
 use Rattle.mr_scenario.specs.declared.scenario.Named.{Named}
 use Rattle.mr_scenario.specs.declared.stop.Kind.{Kind}
 use Rattle.mr_scenario.specs.declared.stop.Kind.TheVariants as kind

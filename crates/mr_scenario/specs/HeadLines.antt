@@ -1,5 +1,5 @@
 -- The head lines of a scenario: each by the words behind its first one.
-use Rattle.std.specs.Prelude.{ℕ, ◌&&◌, Bool, true, false, not, nat_lt, is_none, if◌then◌else◌, Option, Some, None, Result, Ok, Err, List, [], ◌∷◌, ◌++◌, length, bytes_eq, codes}
+use Rattle.std.specs.Prelude.{ℕ, ◌&&◌, true, not, nat_lt, is_none, if◌then◌else◌, Option, Some, Result, Ok, Err, List, [], ◌∷◌, ◌++◌, length, bytes_eq, codes}
 use Rattle.mr_scenario.specs.Counts.{Word, one_of, two_of}
 use Rattle.mr_scenario.specs.Forms.{number_in, address_word, is_taken}
 use Rattle.mr_scenario.specs.Kinds.{bad, or_bad, word_as, wants}

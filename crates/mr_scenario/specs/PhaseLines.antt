@@ -1,5 +1,5 @@
 -- The lines of phases: each by the words behind its first one.
-use Rattle.std.specs.Prelude.{ℕ, ◌+◌, ◌-◌, ◌&&◌, Bool, true, false, nat_lt, is_none, if◌then◌else◌, Option, Some, None, option_to_list, unwrap_or, Result, Ok, Err, List, [], ◌∷◌, ◌++◌, length, bytes_eq, codes}
+use Rattle.std.specs.Prelude.{ℕ, ◌+◌, ◌-◌, Bool, true, false, nat_lt, if◌then◌else◌, Some, option_to_list, unwrap_or, Result, Ok, Err, List, [], ◌∷◌, ◌++◌, length, bytes_eq, codes}
 use Rattle.mr_scenario.specs.Counts.{Word, none_of, two_led, four_of}
 use Rattle.mr_scenario.specs.Forms.{number_in, device_of, hex_word}
 use Rattle.mr_scenario.specs.Kinds.{bad, or_bad, word_as, wants}
@@ -10,7 +10,6 @@ use Rattle.mr_scenario.specs.declared.scenario.DaemonKind.TheVariants.{Plain, Ad
 use Rattle.mr_scenario.specs.declared.scenario.Given.TheVariants.{Bytes, Trace}
 use Rattle.mr_scenario.specs.declared.scenario.Item.{Item}
 use Rattle.mr_scenario.specs.declared.scenario.Phase.{Phase}
-use Rattle.mr_scenario.specs.declared.scenario.Script.{Script}
 use Rattle.mr_scenario.specs.declared.scenario.ScriptLine.{ScriptLine}
 use Rattle.mr_scenario.specs.declared.stop.Kind.{Kind}
 use Rattle.mr_scenario.specs.declared.stop.Kind.TheVariants as kind

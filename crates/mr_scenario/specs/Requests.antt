@@ -1,5 +1,5 @@
 -- The operations of daemons: each by the words behind its own. The number of words is tested first, then the daemon.
-use Rattle.std.specs.Prelude.{ℕ, ◌+◌, Bool, true, false, not, nat_lt, if◌then◌else◌, replicate, Result, Ok, Err, List, [], ◌∷◌, ◌++◌, length, bytes_eq, codes}
+use Rattle.std.specs.Prelude.{ℕ, Bool, false, not, if◌then◌else◌, replicate, Result, Ok, Err, List, [], ◌∷◌, ◌++◌, bytes_eq, codes}
 use Rattle.mr_model.specs.declared.request.MfcCtl.{MfcCtl}
 use Rattle.mr_model.specs.declared.request.MfcKey.{MfcKey}
 use Rattle.mr_model.specs.declared.request.Request.{Request}
@@ -7,7 +7,7 @@ use Rattle.mr_model.specs.declared.request.Request.TheVariants as request
 use Rattle.mr_model.specs.declared.request.VifCtl.{VifCtl}
 use Rattle.mr_scenario.specs.Counts.{Word, none_of, one_of, two_of, three_of, three_led, some_of}
 use Rattle.mr_scenario.specs.Forms.{number_in, number_word, address_word, local_word, thresholds_from, raw_word}
-use Rattle.mr_scenario.specs.Kinds.{bad, or_bad, word_as, wants}
+use Rattle.mr_scenario.specs.Kinds.{or_bad, word_as, wants}
 use Rattle.mr_scenario.specs.declared.scenario.Script.{Script}
 use Rattle.mr_scenario.specs.declared.scenario.Script.TheVariants as script
 use Rattle.mr_scenario.specs.declared.stop.Kind.{Kind}

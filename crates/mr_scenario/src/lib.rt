@@ -2,10 +2,21 @@
 #![tactic(auto)]
 
 mod boxed_name;
+mod counting;
 mod draft;
+mod forms;
+mod head_lines;
+mod hex;
+mod laws;
+mod operations;
+mod phase_lines;
+mod reading;
+mod requests;
 mod scenario;
 mod stop;
 
 pub use boxed_name::BoxedName;
+pub use laws::spelled_fits;
+pub use reading::read;
 pub use scenario::{DaemonKind, Given, Item, Named, Phase, Scenario, Script, ScriptLine};
 pub use stop::{Kind, ScenarioError};

@@ -1,0 +1,117 @@
+//! The forms of single words: numbers, addresses, names of devices, local fields, thresholds.
+
+ghost use Rattle.std.specs.Prelude.{◌≡◌, ◌≤◌, false, length, replicate, IfOk, IfSome};
+ghost use Rattle.mr_scenario.specs.Kinds.{bad};
+ghost use Rattle.mr_scenario.specs.Forms.{number_in, number_word, address_word, is_taken, device_of, local_word, item_of, thresholds_from};
+ghost use Rattle.mr_words.specs.Words.{words_of};
+
+use crate::scenario::Named;
+use crate::stop::Kind;
+use mr_words::{address_of, is_clean, next_word, number_of, split_part};
+
+/// What is wrong with a refused word: a byte that may not stand in it comes before all else.
+pub fn bad(word: &[u8], kind: Kind) -> Kind
+    ensures { result ≡ bad word.now kind }
+{
+    if is_clean(word) { kind } else { Kind::Word }
+}
+
+/// The number that a word spells, if it is at least and at most so much.
+pub fn number_in(least: u32, most: u32, word: &[u8]) -> Option<u32>
+    ensures { result ≡ number_in least most word.now }
+{
+    let number = number_of(word, most)?;
+    if least <= number { Some(number) } else { None }
+}
+
+/// The number that a word spells, at most `most`.
+pub fn number_word(most: u32, word: &[u8]) -> Result<u32, Kind>
+    ensures value { result ≡ number_word most word.now }
+    ensures within { IfOk result (λ n. n ≤ most) }
+{
+    match number_of(word, most) {
+        Some(number) => Ok(number),
+        None => Err(bad(word, Kind::Number)),
+    }
+}
+
+/// The address that a word spells.
+pub fn address_word(word: &[u8]) -> Result<u32, Kind>
+    ensures { result ≡ address_word word.now }
+{
+    match address_of(word) {
+        Some(addr) => Ok(addr),
+        None => Err(bad(word, Kind::Address)),
+    }
+}
+
+/// Whether a device has this name already.
+pub fn is_taken(devices: &[Named], word: &[u8]) -> bool
+    ensures { result ≡ is_taken devices.now word.now }
+{
+    devices.iter().any(|d| d.name.as_str().as_bytes() == word)
+}
+
+/// The number of the device with this name, from 1.
+pub fn device_of(word: &[u8], devices: &[Named]) -> Option<u32>
+    requires { length devices.now ≤ 64 }
+    ensures { result ≡ device_of word.now devices.now }
+{
+    let mut number = 1u32;
+    let mut rest = devices;
+    'devices: while let [device, after @ ..] = rest {
+        if device.name.as_str().as_bytes() == word {
+            return Some(number);
+        }
+        number += 1;
+        rest = after;
+    }
+    None
+}
+
+/// A local field: `@N`, else an address as a number.
+pub fn local_word(word: &[u8]) -> Result<u32, Kind>
+    ensures { result ≡ local_word word.now }
+{
+    match word {
+        [b'@', number @ ..] => number_word(4_294_967_295, number),
+        _ => address_word(word),
+    }
+}
+
+/// `V:T`, a vif and its threshold.
+fn item_of(word: &[u8]) -> Option<(u8, u8)>
+    ensures value { result ≡ item_of word.now }
+    ensures within { IfSome result (λ i. i.0 ≤ 31) }
+{
+    let (vif, rest) = split_part(word, b':');
+    let (ttl, rest) = split_part(rest?, b':');
+    if rest.is_some() {
+        return None;
+    }
+    let vif = number_of(vif, 31)?;
+    let ttl = number_of(ttl, 255)?;
+    Some((vif as u8, ttl as u8))
+}
+
+/// The thresholds that words give, each vif once; 0 for a vif that is not given.
+pub fn thresholds(words: &[u8]) -> Result<[u8; 32], Kind>
+    ensures { result ≡ thresholds_from (replicate 32 0) (replicate 32 false) (words_of words.now) }
+{
+    let mut ttls = [0u8; 32];
+    let mut seen = [false; 32];
+    let mut rest = words;
+    'words: while let Some((word, after)) = next_word(rest) {
+        let Some((vif, ttl)) = item_of(word) else {
+            return Err(bad(word, Kind::Threshold));
+        };
+        let i = usize::from(vif);
+        if seen[i] {
+            return Err(Kind::Threshold);
+        }
+        ttls[i] = ttl;
+        seen[i] = true;
+        rest = after;
+    }
+    Ok(ttls)
+}
