@@ -309,6 +309,20 @@ fn end_phase(machine: Machine<'_>) -> Result<Machine<'_>, Halt>
     Ok(machine)
 }
 
+/// The lines of a phase.
+fn script_of(phase: &Phase) -> &[ScriptLine]
+    ensures { result.now ≡ phase.now.script }
+{
+    phase.script.0.as_slice()
+}
+
+/// The items of a phase.
+fn items_in(phase: &Phase) -> &[Item]
+    ensures { result.now ≡ phase.now.items }
+{
+    phase.items.0.as_slice()
+}
+
 /// A phase: the lines of its daemons, the items of its lanes, and its end.
 fn play_phase<'a>(
     machine: Machine<'a>,
@@ -325,8 +339,10 @@ fn play_phase<'a>(
     ensures numbers { IfOk result (λ _. numbers.new ≡ numbers_behind 1 numbers.old phase.now.items) }
     ensures grows { IfOk result (λ m. length m.entries ≤ length machine.entry.entries + cost phase.now) }
 {
-    let machine = play_daemons(machine, daemons, phase.script.0.as_slice())?;
-    let machine = play_lanes(machine, numbers, phase.items.0.as_slice())?;
+    let lines = script_of(phase);
+    let items = items_in(phase);
+    let machine = play_daemons(machine, daemons, lines)?;
+    let machine = play_lanes(machine, numbers, items)?;
     end_phase(machine)
 }
 
