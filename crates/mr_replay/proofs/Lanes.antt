@@ -1,5 +1,5 @@
 -- Lanes one after another, each from its next number on.
-use Rattle.std.proofs.Common.{◌≡◌, ◌≤◌, ◌<◌, ℕ, zero, suc, ◌+◌, ◌==◌, Bool, true, false, Result, Ok, Err, List, [], ◌∷◌, ◌++◌, length, map, take, drop, get_or, slice_set, drop-cons, refl, sym, ap, ◌∙◌, arith, subst}
+use Rattle.std.proofs.Common.{◌≡◌, ◌≤◌, ◌<◌, ℕ, zero, suc, ◌+◌, ◌==◌, Bool, true, false, Result, Ok, Err, List, [], ◌∷◌, ◌++◌, length, map, replicate, take, drop, get_or, slice_set, drop-cons, refl, sym, ap, ◌∙◌, arith, subst}
 use Rattle.std.proofs.Math.Seq.{append_snoc}
 use Rattle.std.proofs.lemmas.List.{take_more_set, drop-set-lt}
 use Rattle.std.specs.List.{AllByRecursion}
@@ -20,7 +20,7 @@ use Rattle.mr_words.specs.Binds.{◌>>=◌}
 use Rattle.mr_replay.specs.Loading.{from_on, one_to, run_limits}
 use Rattle.mr_replay.specs.Machines.{lane_cost, lanes_cost, numbers_behind, run_lanes, run_phase, run_phases}
 use Rattle.mr_replay.specs.Made.{items_of}
-use Rattle.mr_replay.specs.Played.{play_daemons, play_given, play_item, play_items, play_lanes, play_phase, play_phases}
+use Rattle.mr_replay.specs.Played.{play_daemons, play_given, play_item, play_items, play_lanes, play_phase, play_phases, played}
 use Rattle.mr_replay.proofs.Costing.{packets, packets_more, lane_within}
 
 -- a result behind a good one
@@ -64,21 +64,53 @@ items_given limits h lane n (i ∷ is) g e = sum_by-cons (is_of lane) i is ∙ b
         omega (arith, rest)
 
 -- the numbers stay low behind lanes that ran
-pub lanes_few : (limits : Limits) (h : List Entry) (lane : ℕ) (ns : List ℕ) (is : List Item) (g : List Entry) (most : ℕ) → run_lanes limits h lane ns is ≡ Ok g
-    → AllByRecursion (λ n. n + packets is ≤ most) ns → AllByRecursion (λ n. n ≤ most) (numbers_behind lane ns is)
-lanes_few limits h lane [] is g most e a = tt
-lanes_few limits h lane (n ∷ ns) is g most e a =
+lanes_few : (limits : Limits) (h : List Entry) (lane : ℕ) (ns : List ℕ) (is : List Item) (g : List Entry) (more most : ℕ) → run_lanes limits h lane ns is ≡ Ok g
+    → AllByRecursion (λ n. n + (packets is + more) ≤ most) ns → AllByRecursion (λ n. n + more ≤ most) (numbers_behind lane ns is)
+lanes_few limits h lane [] is g more most e a = tt
+lanes_few limits h lane (n ∷ ns) is g more most e a =
     let b = middle (play_items limits h lane n is) (λ m. run_lanes limits m (lane + 1) ns is) g e in
     let given : items_of lane is ≡ lane_cost lane is = items_given limits h lane n is b.0 b.1 in
     let within : lane_cost lane is ≤ packets is = lane_within lane is in
-    (omega (arith, given, within, a.0), lanes_few limits b.0 (lane + 1) ns is g most b.2 a.1)
+    (omega (arith, given, within, a.0), lanes_few limits b.0 (lane + 1) ns is g more most b.2 a.1)
 
-pub phase_few : (limits : Limits) (h : List Entry) (ds ns : List ℕ) (p : Phase) (g : List Entry) (most : ℕ) → run_phase limits h ds ns p ≡ Ok g
-    → AllByRecursion (λ n. n + packets p.items ≤ most) ns → AllByRecursion (λ n. n ≤ most) (numbers_behind 1 ns p.items)
-phase_few limits h ds ns p g most e a =
+phase_few : (limits : Limits) (h : List Entry) (ds ns : List ℕ) (p : Phase) (g : List Entry) (more most : ℕ) → run_phase limits h ds ns p ≡ Ok g
+    → AllByRecursion (λ n. n + (packets p.items + more) ≤ most) ns → AllByRecursion (λ n. n + more ≤ most) (numbers_behind 1 ns p.items)
+phase_few limits h ds ns p g more most e a =
     let b = middle (play_daemons limits h p.script ds) (λ m. run_lanes limits m 1 ns p.items >>= λ k. Ok (k ++ EndPhase ∷ [])) g e in
     let c = middle (run_lanes limits b.0 1 ns p.items) (λ k. Ok (k ++ EndPhase ∷ [])) g b.2 in
-    lanes_few limits b.0 1 ns p.items c.0 most c.1 a
+    lanes_few limits b.0 1 ns p.items c.0 more most c.1 a
+
+-- a phase and those behind it
+abbrev pub IsNext : List Phase → ℕ → Phase → Type 0
+IsNext ps i p = drop i ps ≡ p ∷ drop (i + 1) ps
+
+pub next_phase : (ps : List Phase) (i : ℕ) (p : Phase) → i < length ps → p ≡ get_or ps i p → IsNext ps i p
+next_phase ps i p within is =
+    let next : suc i ≡ i + 1 = omega arith in
+    let split : drop i ps ≡ get_or ps i p ∷ drop (i + 1) ps = subst (λ (k : ℕ). drop i ps ≡ get_or ps i p ∷ drop k ps) next (drop-cons ps i p within) in
+    split ∙ ap (λ (x : Phase). x ∷ drop (i + 1) ps) (sym is)
+
+pub few_next : (ps : List Phase) (i : ℕ) (p : Phase) (ns : List ℕ) (most : ℕ) → IsNext ps i p → AllByRecursion (λ n. n + packets_of (drop i ps) ≤ most) ns
+    → AllByRecursion (λ n. n + (packets p.items + packets_of (drop (i + 1) ps)) ≤ most) ns
+few_next ps i p ns most next a =
+    let all : packets_of (drop i ps) ≡ packets p.items + packets_of (drop (i + 1) ps) = ap packets_of next ∙ packets_more p (drop (i + 1) ps) in
+    all_weaker (λ n. n + packets_of (drop i ps) ≤ most) (λ n. n + (packets p.items + packets_of (drop (i + 1) ps)) ≤ most) (λ n le. omega (arith, all, le)) ns a
+
+pub few_here : (ps : List Phase) (i : ℕ) (p : Phase) (ns : List ℕ) (most : ℕ) → IsNext ps i p → AllByRecursion (λ n. n + packets_of (drop i ps) ≤ most) ns
+    → AllByRecursion (λ n. n + packets p.items ≤ most) ns
+few_here ps i p ns most next a =
+    all_weaker (λ n. n + (packets p.items + packets_of (drop (i + 1) ps)) ≤ most) (λ n. n + packets p.items ≤ most) (λ n le. omega (arith, le)) ns (few_next ps i p ns most next a)
+
+pub few_behind : (limits : Limits) (m after : List Entry) (ds ns new : List ℕ) (ps : List Phase) (i : ℕ) (p : Phase) (most : ℕ) → IsNext ps i p → run_phase limits m ds ns p ≡ Ok after
+    → new ≡ numbers_behind 1 ns p.items → AllByRecursion (λ n. n + packets_of (drop i ps) ≤ most) ns → AllByRecursion (λ n. n + packets_of (drop (i + 1) ps) ≤ most) new
+few_behind limits m after ds ns new ps i p most next played made a =
+    rw made (phase_few limits m ds ns p after (packets_of (drop (i + 1) ps)) most played (few_next ps i p ns most next a))
+
+pub phases_run : (limits : Limits) (m after : List Entry) (ds ns new : List ℕ) (ps : List Phase) (i : ℕ) (p : Phase) (all : Result (List Entry) ℕ) → IsNext ps i p → run_phase limits m ds ns p ≡ Ok after
+    → new ≡ numbers_behind 1 ns p.items → run_phases limits m ds ns (drop i ps) ≡ all → run_phases limits after ds new (drop (i + 1) ps) ≡ all
+phases_run limits m after ds ns new ps i p all next played made runs =
+    let split : run_phases limits m ds ns (p ∷ drop (i + 1) ps) ≡ all = rw next at runs in
+    rw made (rw played at split)
 
 -- the next numbers of the lanes behind items
 abbrev pub numbers_of : List Item → List ℕ → List ℕ
@@ -151,3 +183,20 @@ pub few_left : (P : ℕ → Type 0) (ns : List ℕ) (i x : ℕ) → i < length n
 few_left P ns i x within a =
     let both : AllByRecursion P (get_or ns i 0 ∷ drop (i + 1) ns) = rw (cut ns i within) at a in
     rw (left ns i x) both.1
+
+-- the first numbers of lanes
+first_numbers : (lane k : ℕ) → numbers_of [] (from_on lane k) ≡ replicate k 1
+first_numbers lane zero = refl
+first_numbers lane (suc k) = ap (λ (ns : List ℕ). 1 ∷ ns) (first_numbers (lane + 1) k)
+
+pub played_is : (s : Scenario) → run_phases (run_limits s) [] (one_to (length s.daemons)) (replicate s.lanes 1) s.phases ≡ played s
+played_is s = ap (λ (ns : List ℕ). run_phases (run_limits s) [] (one_to (length s.daemons)) ns s.phases) (sym (first_numbers 1 s.lanes)) ∙ phases_are s [] [] s.phases
+
+pub first_few : (k more : ℕ) → 1 + more ≤ 4194304 → AllByRecursion (λ n. n + more ≤ 4194304) (replicate k 1)
+first_few zero more le = tt
+first_few (suc k) more le = (le, first_few k more le)
+
+pub take_from : (lane n k : ℕ) → n ≤ k → take n (from_on lane k) ≡ from_on lane n
+take_from lane zero k le = refl
+take_from lane (suc n) zero le = absurd (omega (arith, le))
+take_from lane (suc n) (suc k) le = ap (λ (ns : List ℕ). lane ∷ ns) (take_from (lane + 1) n k (omega (arith, le)))

@@ -1,6 +1,6 @@
 //! The run of a scenario on one thread.
 
-ghost use Rattle.std.specs.Prelude.{◌≡◌, ◌≤◌, ◌<◌, ◌+◌, ◌++◌, ◌∷◌, ℕ, List, [], Ok, None, IfOk, length, map, sum_by};
+ghost use Rattle.std.specs.Prelude.{◌≡◌, ◌≤◌, ◌<◌, ◌+◌, ◌++◌, ◌∷◌, ℕ, List, [], Ok, None, IfOk, length, replicate, sum_by};
 ghost use Rattle.std.specs.List.{AllByRecursion};
 ghost use Rattle.mr_base.specs.AcceptedHeads.{IsHeadOf};
 ghost use Rattle.mr_model.specs.Ending.{ending};
@@ -365,4 +365,55 @@ fn play_phases<'a>(
         machine = play_phase(machine, daemons, numbers, phase)?;
     }
     Ok(machine)
+}
+
+/// The machine before all.
+fn first_machine<'a>(alloc: Global, limits: &'a Limits) -> Machine<'a>
+    requires { length limits.now.devices ≤ 64 }
+    ensures follows { Follows result }
+    ensures limits { result.limits.now ≡ limits.now }
+    ensures entries { result.entries ≡ [] }
+{
+    Machine {
+        limits,
+        entries: Journal::new(alloc),
+        owner: None,
+        vifs: Vec::new(alloc),
+        vif_totals: Vec::new(alloc),
+        routes: Vec::new(alloc),
+        route_totals: Vec::new(alloc),
+    }
+}
+
+/// All daemons that there may be.
+const DAEMONS: [u32; 8] = [1, 2, 3, 4, 5, 6, 7, 8];
+
+/// The first daemons.
+fn daemons_to(count: usize) -> &'static [u32]
+    requires { count ≤ 8 }
+    ensures { result.now ≡ one_to count }
+{
+    &DAEMONS[..count]
+}
+
+/// The machine behind phases of so many daemons and lanes.
+fn machine_of<'a>(
+    alloc: Global,
+    limits: &'a Limits,
+    daemons: &[u32],
+    lanes: usize,
+    phases: &[Phase],
+) -> Result<Machine<'a>, Halt>
+    requires devices { length limits.now.devices ≤ 64 }
+    requires daemons { daemons.now ≡ one_to (length daemons.now) }
+    requires lanes { lanes ≤ 16 }
+    requires room { costs phases.now ≤ 4194304 }
+    requires packets { packets_of phases.now ≤ 1048576 }
+    ensures history { Comes (λ m. m.entries) result (run_phases limits.now [] daemons.now (replicate lanes 1) phases.now) }
+    ensures follows { IfOk result Follows }
+    ensures limits { IfOk result (λ m. m.limits.now ≡ limits.now) }
+{
+    let mut numbers = [1; 16];
+    let machine = first_machine(alloc, limits);
+    play_phases(machine, daemons, &mut numbers[..lanes], phases)
 }
