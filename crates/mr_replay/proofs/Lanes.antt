@@ -18,7 +18,10 @@ use Rattle.mr_scenario.specs.Fits.{packets_in, packets_of}
 use Rattle.mr_scenario.proofs.Each.{all_weaker}
 use Rattle.mr_words.specs.Binds.{◌>>=◌}
 use Rattle.mr_replay.specs.Loading.{from_on, one_to, run_limits}
-use Rattle.mr_replay.specs.Machines.{lane_cost, lanes_cost, numbers_behind, run_lanes, run_phase, run_phases}
+use Rattle.mr_replay.specs.declared.halt.Halt.{Halt}
+use Rattle.mr_replay.specs.declared.halt.Halt.TheVariants as halt
+use Rattle.mr_replay.specs.declared.machine.Machine.{Machine}
+use Rattle.mr_replay.specs.Machines.{Comes, RunsOn, lane_cost, lanes_cost, numbers_behind, run_lanes, run_phase, run_phases}
 use Rattle.mr_replay.specs.Made.{items_of}
 use Rattle.mr_replay.specs.Played.{play_daemons, play_given, play_item, play_items, play_lanes, play_phase, play_phases, played}
 use Rattle.mr_replay.proofs.Costing.{packets, packets_more, lane_within}
@@ -200,3 +203,24 @@ pub take_from : (lane n k : ℕ) → n ≤ k → take n (from_on lane k) ≡ fro
 take_from lane zero k le = refl
 take_from lane (suc n) zero le = absurd (omega (arith, le))
 take_from lane (suc n) (suc k) le = ap (λ (ns : List ℕ). lane ∷ ns) (take_from (lane + 1) n k (omega (arith, le)))
+
+-- what a machine goes on to, as what a function returns
+pub runs_come : (before : Machine) (r : Result Machine Halt) (run : Result (List Entry) ℕ) → RunsOn before r run → Comes (λ m. m.entries) r run
+runs_come before (Ok after) run e = e.0
+runs_come before (Err (halt.NotBuilt line)) run e = e
+runs_come before (Err halt.Memory) run e = tt
+
+take_ones : (n k : ℕ) → n ≤ k → take {A = ℕ} n (replicate k 1) ≡ replicate n 1
+take_ones zero k le = refl
+take_ones (suc n) zero le = absurd (omega (arith, le))
+take_ones (suc n) (suc k) le = ap (λ (ns : List ℕ). 1 ∷ ns) (take_ones n k (omega (arith, le)))
+
+pub sixteen_ones : (n : ℕ) → n ≤ 16 → take {A = ℕ} n (1 ∷ 1 ∷ 1 ∷ 1 ∷ 1 ∷ 1 ∷ 1 ∷ 1 ∷ 1 ∷ 1 ∷ 1 ∷ 1 ∷ 1 ∷ 1 ∷ 1 ∷ 1 ∷ []) ≡ replicate n 1
+sixteen_ones n le = take_ones n 16 le
+
+length_from : (lane k : ℕ) → length (from_on lane k) ≡ k
+length_from lane zero = refl
+length_from lane (suc k) = ap suc (length_from (lane + 1) k)
+
+pub all_to : (ds : List ℕ) (n : ℕ) → ds ≡ one_to n → ds ≡ one_to (length ds)
+all_to ds n e = e ∙ ap one_to (sym (ap length e ∙ length_from 1 n))

@@ -417,3 +417,56 @@ fn machine_of<'a>(
     let machine = first_machine(alloc, limits);
     play_phases(machine, daemons, &mut numbers[..lanes], phases)
 }
+
+/// The phases of a scenario.
+fn phases_of(scenario: &Scenario) -> &[Phase]
+    ensures { result.now ≡ scenario.now.phases }
+{
+    scenario.phases.0.as_slice()
+}
+
+/// How many daemons a scenario has.
+fn daemon_count(scenario: &Scenario) -> usize
+    ensures { result ≡ length scenario.now.daemons }
+{
+    scenario.daemons.0.as_slice().len()
+}
+
+/// The machine behind a scenario's run.
+fn machine_behind<'a>(
+    alloc: Global,
+    scenario: &Scenario,
+    limits: &'a Limits,
+) -> Result<Machine<'a>, Halt>
+    requires fits { Fits scenario.now }
+    requires limits { limits.now ≡ run_limits scenario.now }
+    requires room { controls_due scenario.now ≤ scenario.now.limits.controls }
+    ensures history { Comes (λ m. m.entries) result (played scenario.now) }
+    ensures follows { IfOk result Follows }
+    ensures limits { IfOk result (λ m. m.limits.now ≡ limits.now) }
+{
+    let daemons = daemons_to(daemon_count(scenario));
+    let phases = phases_of(scenario);
+    let lanes = scenario.lanes as usize;
+    machine_of(alloc, limits, daemons, lanes, phases)
+}
+
+/// A scenario's run, or the line of its first call or packet that is not built. `limits` are the scenario's, with the
+/// packets of each lane.
+///
+/// # Errors
+///
+/// `NotBuilt` with the first line whose call or packet comes to what is not built, or `Memory`.
+pub fn play(alloc: Global, scenario: &Scenario, limits: &Limits) -> Result<Run, Halt>
+    requires fits { Fits scenario.now }
+    requires limits { limits.now ≡ run_limits scenario.now }
+    requires room { controls_due scenario.now ≤ scenario.now.limits.controls }
+    ensures history { Comes (λ r. r.entries) result (played scenario.now) }
+    ensures built { IfOk result (λ r. AllBuilt r.entries) }
+    ensures routes { IfOk result (λ r. r.routes.items ≡ (ending (run_limits scenario.now) r.entries).routes) }
+    ensures vifs { IfOk result (λ r. r.vifs.items ≡ (ending (run_limits scenario.now) r.entries).vifs) }
+{
+    let machine = machine_behind(alloc, scenario, limits)?;
+    let run = ended(alloc, machine)?;
+    Ok(run)
+}
