@@ -12,8 +12,10 @@ pub mod LawLimits
 pub mod LawLanes
 pub mod LawPhases
 pub mod LawFates
+pub mod Costing
 pub mod Finishing
 pub mod Holding
 pub mod Keeping
+pub mod Lanes
 pub mod Packeting
 pub mod TableLemmas

@@ -1,6 +1,6 @@
 //! The run of a scenario on one thread.
 
-ghost use Rattle.std.specs.Prelude.{◌≡◌, ◌≤◌, ◌<◌, ◌+◌, ◌++◌, ◌∷◌, ℕ, List, [], Ok, None, IfOk, length, map, sum_by};
+ghost use Rattle.std.specs.Prelude.{◌≡◌, ◌≤◌, ◌<◌, ◌+◌, ◌++◌, ◌∷◌, ℕ, List, [], Ok, None, IfOk, length, replicate, sum_by};
 ghost use Rattle.std.specs.List.{AllByRecursion};
 ghost use Rattle.mr_base.specs.AcceptedHeads.{IsHeadOf};
 ghost use Rattle.mr_model.specs.Ending.{ending};
@@ -309,6 +309,20 @@ fn end_phase(machine: Machine<'_>) -> Result<Machine<'_>, Halt>
     Ok(machine)
 }
 
+/// The lines of a phase.
+fn script_of(phase: &Phase) -> &[ScriptLine]
+    ensures { result.now ≡ phase.now.script }
+{
+    phase.script.0.as_slice()
+}
+
+/// The items of a phase.
+fn items_in(phase: &Phase) -> &[Item]
+    ensures { result.now ≡ phase.now.items }
+{
+    phase.items.0.as_slice()
+}
+
 /// A phase: the lines of its daemons, the items of its lanes, and its end.
 fn play_phase<'a>(
     machine: Machine<'a>,
@@ -325,8 +339,10 @@ fn play_phase<'a>(
     ensures numbers { IfOk result (λ _. numbers.new ≡ numbers_behind 1 numbers.old phase.now.items) }
     ensures grows { IfOk result (λ m. length m.entries ≤ length machine.entry.entries + cost phase.now) }
 {
-    let machine = play_daemons(machine, daemons, phase.script.0.as_slice())?;
-    let machine = play_lanes(machine, numbers, phase.items.0.as_slice())?;
+    let lines = script_of(phase);
+    let items = items_in(phase);
+    let machine = play_daemons(machine, daemons, lines)?;
+    let machine = play_lanes(machine, numbers, items)?;
     end_phase(machine)
 }
 
@@ -349,4 +365,108 @@ fn play_phases<'a>(
         machine = play_phase(machine, daemons, numbers, phase)?;
     }
     Ok(machine)
+}
+
+/// The machine before all.
+fn first_machine<'a>(alloc: Global, limits: &'a Limits) -> Machine<'a>
+    requires { length limits.now.devices ≤ 64 }
+    ensures follows { Follows result }
+    ensures limits { result.limits.now ≡ limits.now }
+    ensures entries { result.entries ≡ [] }
+{
+    Machine {
+        limits,
+        entries: Journal::new(alloc),
+        owner: None,
+        vifs: Vec::new(alloc),
+        vif_totals: Vec::new(alloc),
+        routes: Vec::new(alloc),
+        route_totals: Vec::new(alloc),
+    }
+}
+
+/// All daemons that there may be.
+const DAEMONS: [u32; 8] = [1, 2, 3, 4, 5, 6, 7, 8];
+
+/// The first daemons.
+fn daemons_to(count: usize) -> &'static [u32]
+    requires { count ≤ 8 }
+    ensures { result.now ≡ one_to count }
+{
+    &DAEMONS[..count]
+}
+
+/// The machine behind phases of so many daemons and lanes.
+fn machine_of<'a>(
+    alloc: Global,
+    limits: &'a Limits,
+    daemons: &[u32],
+    lanes: usize,
+    phases: &[Phase],
+) -> Result<Machine<'a>, Halt>
+    requires devices { length limits.now.devices ≤ 64 }
+    requires daemons { daemons.now ≡ one_to (length daemons.now) }
+    requires lanes { lanes ≤ 16 }
+    requires room { costs phases.now ≤ 4194304 }
+    requires packets { packets_of phases.now ≤ 1048576 }
+    ensures history { Comes (λ m. m.entries) result (run_phases limits.now [] daemons.now (replicate lanes 1) phases.now) }
+    ensures follows { IfOk result Follows }
+    ensures limits { IfOk result (λ m. m.limits.now ≡ limits.now) }
+{
+    let mut numbers = [1; 16];
+    let machine = first_machine(alloc, limits);
+    play_phases(machine, daemons, &mut numbers[..lanes], phases)
+}
+
+/// The phases of a scenario.
+fn phases_of(scenario: &Scenario) -> &[Phase]
+    ensures { result.now ≡ scenario.now.phases }
+{
+    scenario.phases.0.as_slice()
+}
+
+/// How many daemons a scenario has.
+fn daemon_count(scenario: &Scenario) -> usize
+    ensures { result ≡ length scenario.now.daemons }
+{
+    scenario.daemons.0.as_slice().len()
+}
+
+/// The machine behind a scenario's run.
+fn machine_behind<'a>(
+    alloc: Global,
+    scenario: &Scenario,
+    limits: &'a Limits,
+) -> Result<Machine<'a>, Halt>
+    requires fits { Fits scenario.now }
+    requires limits { limits.now ≡ run_limits scenario.now }
+    requires room { controls_due scenario.now ≤ scenario.now.limits.controls }
+    ensures history { Comes (λ m. m.entries) result (played scenario.now) }
+    ensures follows { IfOk result Follows }
+    ensures limits { IfOk result (λ m. m.limits.now ≡ limits.now) }
+{
+    let daemons = daemons_to(daemon_count(scenario));
+    let phases = phases_of(scenario);
+    let lanes = scenario.lanes as usize;
+    machine_of(alloc, limits, daemons, lanes, phases)
+}
+
+/// A scenario's run, or the line of its first call or packet that is not built. `limits` are the scenario's, with the
+/// packets of each lane.
+///
+/// # Errors
+///
+/// `NotBuilt` with the first line whose call or packet comes to what is not built, or `Memory`.
+pub fn play(alloc: Global, scenario: &Scenario, limits: &Limits) -> Result<Run, Halt>
+    requires fits { Fits scenario.now }
+    requires limits { limits.now ≡ run_limits scenario.now }
+    requires room { controls_due scenario.now ≤ scenario.now.limits.controls }
+    ensures history { Comes (λ r. r.entries) result (played scenario.now) }
+    ensures built { IfOk result (λ r. AllBuilt r.entries) }
+    ensures routes { IfOk result (λ r. r.routes.items ≡ (ending (run_limits scenario.now) r.entries).routes) }
+    ensures vifs { IfOk result (λ r. r.vifs.items ≡ (ending (run_limits scenario.now) r.entries).vifs) }
+{
+    let machine = machine_behind(alloc, scenario, limits)?;
+    let run = ended(alloc, machine)?;
+    Ok(run)
 }
