@@ -1,6 +1,7 @@
 -- How a run may end, and what each status says.
 use Rattle.std.specs.Prelude.{◌≡◌, ℕ, ◌&&◌, Bool, true, false, not, nat_lt, nat_le, if◌then◌else◌, Option, Some, None, Result, Ok, Err, IsOk, List, [], ◌∷◌, length, bytes_eq, codes, take}
-use Rattle.mr_base.specs.Outside.{Files, HasFile, LastCall}
+use Rattle.std.specs.Global.{Vec}
+use Rattle.mr_base.specs.Outside.{Files, HasFile}
 use Rattle.mr_model.specs.declared.entry.Entry.{Entry}
 use Rattle.mr_model.specs.Legal.{IsLegal}
 use Rattle.mr_scenario.specs.declared.scenario.Scenario.{Scenario}
@@ -9,6 +10,9 @@ use Rattle.mr_replay.specs.declared.status.Status.TheVariants as status
 use Rattle.mr_scenario.specs.declared.stop.Kind.{Kind}
 use Rattle.mr_scenario.specs.Spelled.{spelled}
 use Rattle.mr_replay.specs.Outcomes.{outcome_of}
+use Rattle.mr_replay.specs.Played.{played}
+use Rattle.mr_replay.specs.declared.halt.Halt.{Halt}
+use Rattle.mr_replay.specs.declared.halt.Halt.TheVariants as halt
 use Rattle.mr_replay.specs.Loading.{run_limits}
 use Rattle.mr_replay.specs.Made.{Made}
 use Rattle.mr_replay.specs.Text.{history_text}
@@ -52,10 +56,6 @@ pub record ComesTo (words : List (List ℕ)) (told : Option Files) (s : Status) 
   pub asked : IsAsked words told bytes
   pub outcome : outcome_of bytes ≡ Err s
 
--- the read of this file that failed
-abbrev pub failed_read : List ℕ → LastCall
-failed_read file = record { is_read = true; name = file; failed = true }
-
 -- the statuses with which nothing is written
 abbrev pub is_silent : Status → Bool
 is_silent status.Good = false
@@ -75,11 +75,18 @@ abbrev pub IfStoreFault : Status → (List ℕ → Type 0) → Type 0
 IfStoreFault (status.StoreFault file) P = P file
 IfStoreFault _ P = Unit {0}
 
--- A function that stops by a status but Memory stops by what the bytes come to.
-abbrev pub StopsBy : {A B : Type 0} → Result A Status → Result B Status → Type 0
-StopsBy (Ok x) outcome = Unit {0}
-StopsBy (Err status.Memory) outcome = Unit {0}
-StopsBy (Err s) outcome = outcome ≡ Err s
+-- A loaded scenario comes to the text of a legal history of it, or stops at this line; memory may run out.
+pub record PlaysText (scenario : Scenario) (written : List ℕ) : Type 0 where
+  pub history : List Entry
+  pub played_is : played scenario ≡ Ok history
+  pub legal : IsLegal (run_limits scenario) history
+  pub made : Made scenario history
+  pub text_is : written ≡ history_text scenario history
+
+abbrev pub PlaysTo : Scenario → Result (Vec ℕ) Halt → Type 0
+PlaysTo scenario (Ok v) = PlaysText scenario v.items
+PlaysTo scenario (Err (halt.NotBuilt line)) = played scenario ≡ Err line
+PlaysTo scenario (Err halt.Memory) = Unit {0}
 
 -- Where no call of the outside failed, a run ends by what the bytes come to: Good where they come to a history, else by the
 -- status to which they come. Memory may run out.

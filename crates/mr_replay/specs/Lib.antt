@@ -2,6 +2,7 @@ pub mod Made
 pub mod Loading
 pub mod Played
 pub mod Unbuilt
+pub mod Faults
 pub mod Outcomes
 pub mod Built
 pub mod Text

@@ -13,11 +13,13 @@ mod playing;
 mod route_list;
 mod skips;
 mod status;
+mod top;
 mod totals;
 mod unbuilt;
 mod vif_list;
 mod writing;
 
 pub use laws::{built_fates, played_is_legal};
-pub use loading::Loaded;
+pub use loading::{Loaded, load};
 pub use status::Status;
+pub use top::run;

@@ -2,7 +2,9 @@
 
 ghost use Rattle.std.specs.Prelude.{◌≡◌, ◌≤◌, ◌+◌, ◌++◌, ◌∷◌, [], length, map, nat_le, sum_by, IfOk, OnOk};
 ghost use Rattle.mr_replay.specs.Loading.{items_in, run_limits, packets_in, one_to, skips_from, skip_devs_in};
-ghost use Rattle.mr_replay.specs.Loads.{IsLoaded, Gives, PassesLanes};
+ghost use Rattle.mr_base.specs.Outside.{AllStay, Rose};
+ghost use Rattle.mr_replay.specs.Faults.{failed_read};
+ghost use Rattle.mr_replay.specs.Loads.{IsLoaded, Gives, PassesLanes, LoadsTo, IfFault};
 ghost use Rattle.mr_replay.specs.Made.{packets_from};
 ghost use Rattle.mr_replay.specs.Outcomes.{controls_due, loaded};
 ghost use Rattle.mr_replay.specs.Unbuilt.{AllBytes};
@@ -11,7 +13,7 @@ ghost use Rattle.mr_scenario.specs.Fits.{Fits};
 use crate::skips::{Passed, pass_phases};
 use crate::status::Status;
 use crate::unbuilt::{first_unbuilt, lines_of, phases_of};
-use mr_base::List;
+use mr_base::{FileName, List, ReadError, Store};
 use mr_lines::Skip;
 use mr_model::Limits;
 use mr_scenario::{Phase, Scenario, ScenarioError};
@@ -127,7 +129,7 @@ fn with_items(alloc: Global, scenario: Scenario) -> Result<Loaded, AllocError>
 }
 
 /// The scenario that bytes spell, if it can be run.
-pub fn load_bytes(alloc: Global, bytes: &[u8]) -> Result<Loaded, Status>
+fn load_bytes(alloc: Global, bytes: &[u8]) -> Result<Loaded, Status>
     ensures scenario { Gives (λ l. l.scenario) result (loaded bytes.now) }
     ensures loaded { IfOk result IsLoaded }
 {
@@ -145,5 +147,35 @@ pub fn load_bytes(alloc: Global, bytes: &[u8]) -> Result<Loaded, Status>
     match with_items(alloc, scenario) {
         Ok(loaded) => Ok(loaded),
         Err(_) => Err(Status::Memory),
+    }
+}
+
+/// Reads the scenario of this name from the store, whose name has 1 to 255 bytes, and tells its items apart into packets and
+/// skips. The sessions of `serve` are not built yet.
+///
+/// Errors, in their order: `StoreFault`, where the file cannot be read; `Scenario` with the first bad line; `NotBuilt` with the
+/// first line whose form is not built yet; `ControlFull`, where the daemons' lines are more than the limit on control
+/// entries. `Memory` may come wherever memory is taken.
+pub fn load<S: Store>(
+    alloc: Global,
+    file: &str,
+    _serve: bool,
+    store: &mut S,
+) -> Result<Loaded, Status>
+    requires named { 1 ≤ length file.now }
+    requires fits { length file.now ≤ 255 }
+    ensures loads { LoadsTo (S.told store.old) file.now result }
+    ensures loaded { IfOk result IsLoaded }
+    ensures last { IfFault result (S.last store.new ≡ failed_read file.now) }
+    ensures rose { IfFault result (Rose (S.faults store.old) (S.faults store.new)) }
+    ensures files { AllStay (S.told store.old) (S.told store.new) }
+    ensures count { S.faults store.old ≤ S.faults store.new }
+{
+    match store.read(alloc, file) {
+        Ok(bytes) => load_bytes(alloc, bytes.as_slice()),
+        Err(ReadError::Failed) => Err(Status::StoreFault {
+            file: FileName::new(file),
+        }),
+        Err(ReadError::Memory) => Err(Status::Memory),
     }
 }

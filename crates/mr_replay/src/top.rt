@@ -1,0 +1,150 @@
+//! The top call.
+
+ghost use Rattle.std.specs.Prelude.{ℕ, List, [], ◌≡◌, ◌⊎◌, ◌↔◌, ◌≤◌, length, map, string_bytes, MatchOption, IfOk, IfSome, None, Some, true, Ok};
+ghost use Rattle.mr_base.specs.Outside.{Files, Rose, AllStay, Takes, TakesPrefix};
+ghost use Rattle.mr_replay.specs.Endings.{is_file_word, file_asked, RunsTo, Replays, ComesTo, PlaysTo, is_silent, IfScenario, IfNotBuilt, IfStoreFault, EndsBy};
+ghost use Rattle.mr_replay.specs.Faults.{failed_read};
+ghost use Rattle.mr_replay.specs.Loads.{IsLoaded};
+ghost use Rattle.mr_replay.specs.Outcomes.{loaded, outcome_of};
+ghost use Rattle.mr_replay.specs.declared.status.Status.TheVariants as status;
+
+use crate::halt::Halt;
+use crate::loading::{Loaded, load};
+use crate::playing::play;
+use crate::status::Status;
+use crate::writing::write_run;
+use mr_base::{Clock, Door, Gate, Sink, Store};
+use mr_lines::Skip;
+use mr_model::Limits;
+use mr_scenario::{Named, Scenario};
+use std::alloc::Global;
+use std::sync::Wait;
+use std::thread::Threads;
+
+/// Whether a word may name a file: 1 to 255 bytes, which do not begin with `out-`.
+fn is_file_word(word: &str) -> bool
+    ensures { result ≡ is_file_word word.now }
+{
+    let bytes = word.as_bytes();
+    !bytes.is_empty() && bytes.len() <= 255 && !bytes.starts_with(b"out-")
+}
+
+/// The file that the words ask to replay.
+fn file_asked(words: &[String]) -> Option<&str>
+    ensures asked { MatchOption result (file_asked (map string_bytes words.now) ≡ None) (λ w. file_asked (map string_bytes words.now) ≡ Some w.now) }
+    ensures some { IfSome result (λ w. 1 ≤ length w.now) }
+    ensures most { IfSome result (λ w. length w.now ≤ 255) }
+{
+    match words {
+        [command, file] => {
+            if command.as_str() == "replay" && is_file_word(file.as_str()) {
+                Some(file.as_str())
+            } else {
+                None
+            }
+        }
+        _ => None,
+    }
+}
+
+/// The parts of what was loaded.
+fn parts_of(loaded: &Loaded) -> (&Scenario, &Limits, &[Skip])
+    ensures scenario { result.0.now ≡ loaded.now.scenario }
+    ensures limits { result.1.now ≡ loaded.now.limits }
+    ensures skips { result.2.now ≡ loaded.now.skips }
+{
+    (&loaded.scenario, &loaded.limits, loaded.skips.0.as_slice())
+}
+
+/// The devices of a scenario.
+fn devices_of(scenario: &Scenario) -> &[Named]
+    ensures { result.now ≡ scenario.now.devices }
+{
+    scenario.devices.0.as_slice()
+}
+
+/// The text of the history to which a loaded scenario comes.
+fn history_of(alloc: Global, loaded: &Loaded) -> Result<Vec<u8>, Halt>
+    requires { IsLoaded loaded.now }
+    ensures { PlaysTo loaded.now.scenario result }
+{
+    let (scenario, limits, skips) = parts_of(loaded);
+    let run = play(alloc, scenario, limits)?;
+    let text = write_run(alloc, skips, devices_of(scenario), &run)?;
+    Ok(text)
+}
+
+/// Hands the history's text to the sink.
+fn put<K: Sink>(out: &mut K, text: &[u8]) -> Status
+    ensures good { result ≡ status.Good → Takes (K.taken out.old) text.now (K.taken out.new) }
+    ensures fault { result ≡ status.SinkFault → Rose (K.faults out.old) (K.faults out.new) }
+    ensures cut { result ≡ status.SinkFault → TakesPrefix (K.taken out.old) text.now (K.taken out.new) }
+    ensures only { (result ≡ status.Good) ⊎ (result ≡ status.SinkFault) }
+{
+    match out.put(text) {
+        Ok(()) => Status::Good,
+        Err(_) => Status::SinkFault,
+    }
+}
+
+/// Runs the command that `words` (those after the program's name) spell: `replay SCENARIO` reads the scenario of that
+/// name from the store, runs it and writes the text of its history to `out`. Other words are `Usage`.
+///
+/// The statuses in their order: `Usage`; `StoreFault`, where the scenario cannot be read; `Scenario` with its first bad line;
+/// `NotBuilt` with the first line whose form is not built yet; `ControlFull`, where the daemons' lines are more than the
+/// scenario's limit; `NotBuilt` with the first call or packet whose outcome is not built; `SinkFault`. `Memory` may come
+/// wherever memory is taken. With any but `Good` and `SinkFault` nothing is written.
+///
+/// The runtime, the door, the clock and the gate are not asked yet.
+pub fn run<R: Wait + Threads + Sync, S: Store, K: Sink, D: Door, C: Clock, G: Gate + Sync>(
+    _rt: &R,
+    alloc: Global,
+    words: &[String],
+    store: &mut S,
+    out: &mut K,
+    _door: &mut D,
+    _clock: &mut C,
+    _gate: &G,
+) -> Status
+    // The words are not `replay SCENARIO`, with a file word.
+    ensures usage { (result ≡ status.Usage) ↔ (file_asked (map string_bytes words.now) ≡ None) }
+    // The sink took the text of a legal history of the scenario that the file spells, with what that asks in its order.
+    ensures good { result ≡ status.Good → Replays (map string_bytes words.now) (S.told store.old) (λ text. Takes (K.taken out.old) text (K.taken out.new)) }
+    // The first bad line of the file, and what is wrong with it.
+    ensures scenario { IfScenario result (λ line kind. ComesTo (map string_bytes words.now) (S.told store.old) (status.Scenario line kind)) }
+    // The first line of the file that is not built, by its form or else by its call or packet.
+    ensures not_built { IfNotBuilt result (λ line. ComesTo (map string_bytes words.now) (S.told store.old) (status.NotBuilt line)) }
+    // The lines of the daemons are more than the limit on control entries.
+    ensures control_full { result ≡ status.ControlFull → ComesTo (map string_bytes words.now) (S.told store.old) status.ControlFull }
+    // The file asked for, whose read failed, and the store's count rose.
+    ensures store_fault { IfStoreFault result (λ file. file_asked (map string_bytes words.now) ≡ Some file) }
+    ensures store_last { IfStoreFault result (λ file. S.last store.new ≡ failed_read file) }
+    ensures store_rose { IfStoreFault result (λ file. Rose (S.faults store.old) (S.faults store.new)) }
+    // What was taken is a prefix of the text that Good would have written, and the sink's count rose.
+    ensures sink_fault { result ≡ status.SinkFault → Replays (map string_bytes words.now) (S.told store.old) (λ text. TakesPrefix (K.taken out.old) text (K.taken out.new)) }
+    ensures sink_rose { result ≡ status.SinkFault → Rose (K.faults out.old) (K.faults out.new) }
+    // Over a store that tells, and where no count of faults rose, the file's bytes decide the status.
+    ensures complete { (files : Files) (file bytes : List ℕ) →
+        file_asked (map string_bytes words.now) ≡ Some file →
+        S.told store.old ≡ Some files →
+        files file ≡ Some bytes →
+        (Rose (S.faults store.old) (S.faults store.new) → ⊥) →
+        (Rose (K.faults out.old) (K.faults out.new) → ⊥) →
+        EndsBy result (outcome_of bytes) }
+    // With the other statuses nothing is written, and no file ever changes.
+    ensures silent { is_silent result ≡ true → out.new ≡ out.old }
+    ensures files { AllStay (S.told store.old) (S.told store.new) }
+{
+    let Some(file) = file_asked(words) else {
+        return Status::Usage;
+    };
+    let loaded = match load(alloc, file, false, store) {
+        Ok(loaded) => loaded,
+        Err(status) => return status,
+    };
+    match history_of(alloc, &loaded) {
+        Ok(text) => put(out, text.as_slice()),
+        Err(Halt::NotBuilt(line)) => Status::NotBuilt { line },
+        Err(Halt::Memory) => Status::Memory,
+    }
+}
