@@ -1,5 +1,5 @@
 -- How many entries the daemons, the lanes and the phases of a scenario make at most.
-use Rattle.std.proofs.Common.{◌≡◌, ◌≤◌, ◌<◌, ℕ, zero, suc, ◌+◌, ◌==◌, Bool, true, false, cond, List, [], ◌∷◌, length, refl, sym, ap, ◌∙◌, arith, subst}
+use Rattle.std.proofs.Common.{◌≡◌, ◌≤◌, ◌<◌, ℕ, zero, suc, ◌+◌, ◌==◌, Bool, true, false, cond, List, [], ◌∷◌, length, refl, sym, arith, subst}
 use Rattle.std.specs.Prelude.{sum_by, if◌then◌else◌}
 use Rattle.std.proofs.lemmas.List.Sums.{sum_by-cons}
 use Rattle.mr_scenario.specs.declared.scenario.Item.{Item}
@@ -8,7 +8,7 @@ use Rattle.mr_scenario.specs.declared.scenario.Scenario.{Scenario}
 use Rattle.mr_scenario.specs.declared.scenario.ScriptLine.{ScriptLine}
 use Rattle.mr_scenario.specs.Fits.{Fits, packets_in, packets_of}
 use Rattle.mr_replay.specs.Loading.{from_on, one_to}
-use Rattle.mr_replay.specs.Machines.{costs, daemons_cost, lane_cost, lanes_cost}
+use Rattle.mr_replay.specs.Machines.{costs, daemons_cost, lane_cost, lanes_cost, packets_among}
 use Rattle.mr_replay.specs.Outcomes.{controls_due}
 use Rattle.mr_replay.specs.Played.{lines_of}
 
@@ -53,10 +53,6 @@ daemons_fit ls ms ds e f =
     subst (λ (xs : List ScriptLine). daemons_cost xs ds ≤ length ls) (sym f)
     (subst (λ (xs : List ℕ). daemons_cost ls xs ≤ length ls) (sym e) (daemons_within ls 1 (length ds)))
 
--- the packets among items
-abbrev pub packets : List Item → ℕ
-packets is = sum_by (λ (i : Item). packets_in i.given) is
-
 -- an item of a lane before all these
 item_before : (i : Item) (is : List Item) (lane : ℕ) (ns : List ℕ) → i.lane.0 < lane → lanes_cost lane ns (i ∷ is) ≡ lanes_cost lane ns is
 item_before i is lane [] b = refl
@@ -80,22 +76,22 @@ no_items : (lane : ℕ) (ns : List ℕ) → lanes_cost lane ns [] ≡ 0
 no_items lane [] = refl
 no_items lane (n ∷ ns) = rw (no_items (lane + 1) ns) refl
 
-pub lanes_within : (lane : ℕ) (ns : List ℕ) (is : List Item) → lanes_cost lane ns is ≤ packets is
+pub lanes_within : (lane : ℕ) (ns : List ℕ) (is : List Item) → lanes_cost lane ns is ≤ packets_among is
 lanes_within lane ns [] = omega (arith, no_items lane ns)
 lanes_within lane ns (i ∷ is) =
-    let all : packets (i ∷ is) ≡ packets_in i.given + packets is = sum_by-cons (λ (x : Item). packets_in x.given) i is in
+    let all : packets_among (i ∷ is) ≡ packets_in i.given + packets_among is = sum_by-cons (λ (x : Item). packets_in x.given) i is in
     let once : lanes_cost lane ns (i ∷ is) ≤ packets_in i.given + lanes_cost lane ns is = item_once i is lane ns in
-    let rest : lanes_cost lane ns is ≤ packets is = lanes_within lane ns is in
+    let rest : lanes_cost lane ns is ≤ packets_among is = lanes_within lane ns is in
     omega (arith, all, once, rest)
 
-pub lane_within : (lane : ℕ) (is : List Item) → lane_cost lane is ≤ packets is
+pub lane_within : (lane : ℕ) (is : List Item) → lane_cost lane is ≤ packets_among is
 lane_within lane is = omega (arith, lanes_within lane (0 ∷ []) is)
 
 abbrev scripts : List Phase → ℕ
 scripts ps = sum_by (λ (p : Phase). length p.script) ps
 
-pub packets_more : (p : Phase) (ps : List Phase) → packets_of (p ∷ ps) ≡ packets p.items + packets_of ps
-packets_more p ps = sum_by-cons (λ (x : Phase). packets x.items) p ps
+pub packets_more : (p : Phase) (ps : List Phase) → packets_of (p ∷ ps) ≡ packets_among p.items + packets_of ps
+packets_more p ps = sum_by-cons (λ (x : Phase). packets_among x.items) p ps
 
 costs_are : (ps : List Phase) → costs ps ≡ scripts ps + packets_of ps + length ps
 costs_are [] = refl

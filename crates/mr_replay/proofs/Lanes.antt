@@ -3,7 +3,7 @@ use Rattle.std.proofs.Common.{◌≡◌, ◌≤◌, ◌<◌, ℕ, zero, suc, ◌
 use Rattle.std.proofs.Math.Seq.{append_snoc}
 use Rattle.std.proofs.lemmas.List.{take_more_set, drop-set-lt}
 use Rattle.std.specs.List.{AllByRecursion}
-use Rattle.std.specs.Prelude.{sum_by, if◌then◌else◌, IfOk}
+use Rattle.std.specs.Prelude.{if◌then◌else◌, IfOk}
 use Rattle.std.proofs.lemmas.List.Sums.{sum_by-append, sum_by-cons}
 use Rattle.mr_model.specs.declared.entry.Entry.{Entry}
 use Rattle.mr_model.specs.declared.entry.Entry.TheVariants.{EndPhase}
@@ -21,10 +21,10 @@ use Rattle.mr_replay.specs.Loading.{from_on, one_to, run_limits}
 use Rattle.mr_replay.specs.declared.halt.Halt.{Halt}
 use Rattle.mr_replay.specs.declared.halt.Halt.TheVariants as halt
 use Rattle.mr_replay.specs.declared.machine.Machine.{Machine}
-use Rattle.mr_replay.specs.Machines.{Comes, RunsOn, lane_cost, lanes_cost, numbers_behind, run_lanes, run_phase, run_phases}
+use Rattle.mr_replay.specs.Machines.{Comes, RunsOn, lane_cost, lanes_cost, numbers_behind, packets_among, run_lanes, run_phase, run_phases}
 use Rattle.mr_replay.specs.Made.{items_of}
 use Rattle.mr_replay.specs.Played.{play_daemons, play_given, play_item, play_items, play_lanes, play_phase, play_phases, played}
-use Rattle.mr_replay.proofs.Costing.{packets, packets_more, lane_within}
+use Rattle.mr_replay.proofs.Costing.{packets_more, lane_within}
 
 -- a result behind a good one
 abbrev pub Middle : {A B E : Type 0} → Result A E → (A → Result B E) → B → Type 0
@@ -68,16 +68,16 @@ items_given limits h lane n (i ∷ is) g e = sum_by-cons (is_of lane) i is ∙ b
 
 -- the numbers stay low behind lanes that ran
 lanes_few : (limits : Limits) (h : List Entry) (lane : ℕ) (ns : List ℕ) (is : List Item) (g : List Entry) (more most : ℕ) → run_lanes limits h lane ns is ≡ Ok g
-    → AllByRecursion (λ n. n + (packets is + more) ≤ most) ns → AllByRecursion (λ n. n + more ≤ most) (numbers_behind lane ns is)
+    → AllByRecursion (λ n. n + (packets_among is + more) ≤ most) ns → AllByRecursion (λ n. n + more ≤ most) (numbers_behind lane ns is)
 lanes_few limits h lane [] is g more most e a = tt
 lanes_few limits h lane (n ∷ ns) is g more most e a =
     let b = middle (play_items limits h lane n is) (λ m. run_lanes limits m (lane + 1) ns is) g e in
     let given : items_of lane is ≡ lane_cost lane is = items_given limits h lane n is b.0 b.1 in
-    let within : lane_cost lane is ≤ packets is = lane_within lane is in
+    let within : lane_cost lane is ≤ packets_among is = lane_within lane is in
     (omega (arith, given, within, a.0), lanes_few limits b.0 (lane + 1) ns is g more most b.2 a.1)
 
 phase_few : (limits : Limits) (h : List Entry) (ds ns : List ℕ) (p : Phase) (g : List Entry) (more most : ℕ) → run_phase limits h ds ns p ≡ Ok g
-    → AllByRecursion (λ n. n + (packets p.items + more) ≤ most) ns → AllByRecursion (λ n. n + more ≤ most) (numbers_behind 1 ns p.items)
+    → AllByRecursion (λ n. n + (packets_among p.items + more) ≤ most) ns → AllByRecursion (λ n. n + more ≤ most) (numbers_behind 1 ns p.items)
 phase_few limits h ds ns p g more most e a =
     let b = middle (play_daemons limits h p.script ds) (λ m. run_lanes limits m 1 ns p.items >>= λ k. Ok (k ++ EndPhase ∷ [])) g e in
     let c = middle (run_lanes limits b.0 1 ns p.items) (λ k. Ok (k ++ EndPhase ∷ [])) g b.2 in
@@ -94,15 +94,15 @@ next_phase ps i p within is =
     split ∙ ap (λ (x : Phase). x ∷ drop (i + 1) ps) (sym is)
 
 pub few_next : (ps : List Phase) (i : ℕ) (p : Phase) (ns : List ℕ) (most : ℕ) → IsNext ps i p → AllByRecursion (λ n. n + packets_of (drop i ps) ≤ most) ns
-    → AllByRecursion (λ n. n + (packets p.items + packets_of (drop (i + 1) ps)) ≤ most) ns
+    → AllByRecursion (λ n. n + (packets_among p.items + packets_of (drop (i + 1) ps)) ≤ most) ns
 few_next ps i p ns most next a =
-    let all : packets_of (drop i ps) ≡ packets p.items + packets_of (drop (i + 1) ps) = ap packets_of next ∙ packets_more p (drop (i + 1) ps) in
-    all_weaker (λ n. n + packets_of (drop i ps) ≤ most) (λ n. n + (packets p.items + packets_of (drop (i + 1) ps)) ≤ most) (λ n le. omega (arith, all, le)) ns a
+    let all : packets_of (drop i ps) ≡ packets_among p.items + packets_of (drop (i + 1) ps) = ap packets_of next ∙ packets_more p (drop (i + 1) ps) in
+    all_weaker (λ n. n + packets_of (drop i ps) ≤ most) (λ n. n + (packets_among p.items + packets_of (drop (i + 1) ps)) ≤ most) (λ n le. omega (arith, all, le)) ns a
 
 pub few_here : (ps : List Phase) (i : ℕ) (p : Phase) (ns : List ℕ) (most : ℕ) → IsNext ps i p → AllByRecursion (λ n. n + packets_of (drop i ps) ≤ most) ns
-    → AllByRecursion (λ n. n + packets p.items ≤ most) ns
+    → AllByRecursion (λ n. n + packets_among p.items ≤ most) ns
 few_here ps i p ns most next a =
-    all_weaker (λ n. n + (packets p.items + packets_of (drop (i + 1) ps)) ≤ most) (λ n. n + packets p.items ≤ most) (λ n le. omega (arith, le)) ns (few_next ps i p ns most next a)
+    all_weaker (λ n. n + (packets_among p.items + packets_of (drop (i + 1) ps)) ≤ most) (λ n. n + packets_among p.items ≤ most) (λ n le. omega (arith, le)) ns (few_next ps i p ns most next a)
 
 pub few_behind : (limits : Limits) (m after : List Entry) (ds ns new : List ℕ) (ps : List Phase) (i : ℕ) (p : Phase) (most : ℕ) → IsNext ps i p → run_phase limits m ds ns p ≡ Ok after
     → new ≡ numbers_behind 1 ns p.items → AllByRecursion (λ n. n + packets_of (drop i ps) ≤ most) ns → AllByRecursion (λ n. n + packets_of (drop (i + 1) ps) ≤ most) new

@@ -127,12 +127,16 @@ routes_set vifs c fixed number routes =
 abbrev pub totals_set : MfcCtl → List Route → List RouteTotals → List RouteTotals
 totals_set c routes totals = if list_any (is_named c.src c.dst None) routes then totals else no_route_totals ∷ totals
 
+-- how many packets there are among items, refused heads included
+abbrev pub packets_among : List Item → ℕ
+packets_among is = sum_by (λ i. packets_in i.given) is
+
 -- how many entries the lines of these daemons make at most
 abbrev pub daemons_cost : List ScriptLine → List ℕ → ℕ
 daemons_cost ls [] = 0
 daemons_cost ls (d ∷ ds) = length (lines_of d ls) + daemons_cost ls ds
 
--- how many packets a lane has among items, refused heads included
+-- how many packets of a lane there are among items, refused heads included
 abbrev pub lane_cost : ℕ → List Item → ℕ
 lane_cost lane [] = 0
 lane_cost lane (i ∷ is) = if i.lane.0 == lane then packets_in i.given + lane_cost lane is else lane_cost lane is
@@ -144,7 +148,7 @@ lanes_cost lane (n ∷ ns) is = lane_cost lane is + lanes_cost (lane + 1) ns is
 
 -- how many entries a phase makes at most
 abbrev pub cost : Phase → ℕ
-cost p = length p.script + sum_by (λ i. packets_in i.given) p.items + 1
+cost p = length p.script + packets_among p.items + 1
 
 abbrev pub costs : List Phase → ℕ
 costs [] = 0

@@ -1,6 +1,6 @@
 //! The run of a scenario on one thread.
 
-ghost use Rattle.std.specs.Prelude.{◌≡◌, ◌≤◌, ◌<◌, ◌+◌, ◌++◌, ◌∷◌, ℕ, List, [], Ok, None, IfOk, length, replicate, sum_by};
+ghost use Rattle.std.specs.Prelude.{◌≡◌, ◌≤◌, ◌<◌, ◌+◌, ◌++◌, ◌∷◌, ℕ, List, [], Ok, None, IfOk, length, replicate};
 ghost use Rattle.std.specs.List.{AllByRecursion};
 ghost use Rattle.mr_base.specs.AcceptedHeads.{IsHeadOf};
 ghost use Rattle.mr_model.specs.Ending.{ending};
@@ -8,7 +8,7 @@ ghost use Rattle.mr_model.specs.Outcome.{outcome as outcome_of};
 ghost use Rattle.mr_model.specs.Verdict.{verdict_in};
 ghost use Rattle.mr_replay.specs.Built.{AllBuilt};
 ghost use Rattle.mr_replay.specs.Loading.{one_to, run_limits};
-ghost use Rattle.mr_replay.specs.Machines.{Follows, HasRoom, RunsOn, Comes, IsCounted, IsRouteOf, IsVifOf, cost, costs, daemons_cost, lane_cost, lanes_cost, numbers_behind, routes_with, run_lanes, run_phase, run_phases, vifs_with};
+ghost use Rattle.mr_replay.specs.Machines.{Follows, HasRoom, RunsOn, Comes, IsCounted, IsRouteOf, IsVifOf, cost, costs, daemons_cost, lane_cost, lanes_cost, numbers_behind, packets_among, routes_with, run_lanes, run_phase, run_phases, vifs_with};
 ghost use Rattle.mr_replay.specs.Made.{flow_of, items_of};
 ghost use Rattle.mr_replay.specs.Outcomes.{controls_due};
 ghost use Rattle.mr_replay.specs.Played.{lines_of, play_daemons, play_given, play_item, play_items, play_line, play_lines, play_phases, played, with_outcome};
@@ -286,7 +286,7 @@ fn play_lanes<'a>(
     requires follows { Follows machine }
     requires lanes { length numbers.now ≤ 16 }
     requires room { HasRoom machine (lanes_cost 1 numbers.now items.now + 1) }
-    requires numbers { AllByRecursion (λ n. n + sum_by (λ i. packets_in i.given) items.now ≤ 4194304) numbers.now }
+    requires numbers { AllByRecursion (λ n. n + packets_among items.now ≤ 4194304) numbers.now }
     ensures runs { RunsOn machine.entry result (run_lanes machine.entry.limits.now machine.entry.entries 1 numbers.old items.now) }
     ensures numbers { IfOk result (λ _. numbers.new ≡ numbers_behind 1 numbers.old items.now) }
     ensures grows { IfOk result (λ m. length m.entries ≤ length machine.entry.entries + lanes_cost 1 numbers.old items.now) }
@@ -334,7 +334,7 @@ fn play_phase<'a>(
     requires daemons { daemons.now ≡ one_to (length daemons.now) }
     requires lanes { length numbers.now ≤ 16 }
     requires room { HasRoom machine (cost phase.now) }
-    requires numbers { AllByRecursion (λ n. n + sum_by (λ i. packets_in i.given) phase.now.items ≤ 4194304) numbers.now }
+    requires numbers { AllByRecursion (λ n. n + packets_among phase.now.items ≤ 4194304) numbers.now }
     ensures runs { RunsOn machine.entry result (run_phase machine.entry.limits.now machine.entry.entries daemons.now numbers.old phase.now) }
     ensures numbers { IfOk result (λ _. numbers.new ≡ numbers_behind 1 numbers.old phase.now.items) }
     ensures grows { IfOk result (λ m. length m.entries ≤ length machine.entry.entries + cost phase.now) }
@@ -467,6 +467,5 @@ pub fn play(alloc: Global, scenario: &Scenario, limits: &Limits) -> Result<Run, 
     ensures vifs { IfOk result (λ r. r.vifs.items ≡ (ending (run_limits scenario.now) r.entries).vifs) }
 {
     let machine = machine_behind(alloc, scenario, limits)?;
-    let run = ended(alloc, machine)?;
-    Ok(run)
+    ended(alloc, machine)
 }

@@ -1,4 +1,4 @@
-use Rattle.std.proofs.Common.{◌≡◌, ap, arith, ◌∙◌}
+use Rattle.std.proofs.Common.{ap, arith, ◌∙◌}
 use Rattle.mr_replay.specs.Machines.{costs}
 use Rattle.mr_replay.proofs.Lanes.{few_behind, few_here, next_phase, phases_run}
 use Rattle.mr_replay.proofs.playing.play_phases.Goals as goal
