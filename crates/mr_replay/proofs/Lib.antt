@@ -19,3 +19,4 @@ pub mod Keeping
 pub mod Lanes
 pub mod Packeting
 pub mod TableLemmas
+pub mod Running

@@ -5,7 +5,9 @@ ghost use Rattle.mr_base.specs.Outside.{Files, Rose, AllStay, Takes, TakesPrefix
 ghost use Rattle.mr_replay.specs.Endings.{is_file_word, file_asked, RunsTo, Replays, ComesTo, PlaysTo, is_silent, IfScenario, IfNotBuilt, IfStoreFault, EndsBy};
 ghost use Rattle.mr_replay.specs.Faults.{failed_read};
 ghost use Rattle.mr_replay.specs.Loads.{IsLoaded};
-ghost use Rattle.mr_replay.specs.Outcomes.{loaded, outcome_of};
+ghost use Rattle.mr_replay.specs.Loading.{run_limits, skips_of};
+ghost use Rattle.mr_replay.specs.Outcomes.{controls_due, outcome_of};
+ghost use Rattle.mr_scenario.specs.Fits.{Fits};
 ghost use Rattle.mr_replay.specs.declared.status.Status.TheVariants as status;
 
 use crate::halt::Halt;
@@ -47,15 +49,6 @@ fn file_asked(words: &[String]) -> Option<&str>
     }
 }
 
-/// The parts of what was loaded.
-fn parts_of(loaded: &Loaded) -> (&Scenario, &Limits, &[Skip])
-    ensures scenario { result.0.now ≡ loaded.now.scenario }
-    ensures limits { result.1.now ≡ loaded.now.limits }
-    ensures skips { result.2.now ≡ loaded.now.skips }
-{
-    (&loaded.scenario, &loaded.limits, loaded.skips.0.as_slice())
-}
-
 /// The devices of a scenario.
 fn devices_of(scenario: &Scenario) -> &[Named]
     ensures { result.now ≡ scenario.now.devices }
@@ -63,15 +56,38 @@ fn devices_of(scenario: &Scenario) -> &[Named]
     scenario.devices.0.as_slice()
 }
 
+/// The text of the history to which a scenario comes.
+fn text_of(
+    alloc: Global,
+    scenario: &Scenario,
+    limits: &Limits,
+    skips: &[Skip],
+) -> Result<Vec<u8>, Halt>
+    requires fits { Fits scenario.now }
+    requires room { controls_due scenario.now ≤ scenario.now.limits.controls }
+    requires limits { limits.now ≡ run_limits scenario.now }
+    requires skips { skips.now ≡ skips_of scenario.now }
+    ensures { PlaysTo scenario.now result }
+{
+    let run = play(alloc, scenario, limits)?;
+    let devices = devices_of(scenario);
+    let text = write_run(alloc, skips, devices, &run)?;
+    Ok(text)
+}
+
+/// The skips of what was loaded.
+fn skips_of(loaded: &Loaded) -> &[Skip]
+    ensures { result.now ≡ loaded.now.skips }
+{
+    loaded.skips.0.as_slice()
+}
+
 /// The text of the history to which a loaded scenario comes.
 fn history_of(alloc: Global, loaded: &Loaded) -> Result<Vec<u8>, Halt>
     requires { IsLoaded loaded.now }
     ensures { PlaysTo loaded.now.scenario result }
 {
-    let (scenario, limits, skips) = parts_of(loaded);
-    let run = play(alloc, scenario, limits)?;
-    let text = write_run(alloc, skips, devices_of(scenario), &run)?;
-    Ok(text)
+    text_of(alloc, &loaded.scenario, &loaded.limits, skips_of(loaded))
 }
 
 /// Hands the history's text to the sink.
