@@ -12,5 +12,5 @@ mod stub;
 mod tests;
 
 pub use history_text::{HistoryText, TextError};
-pub use laws::{none_begins, one_text, read_is_text, text_is_read};
+pub use laws::{lines_begin, none_begins, one_text, read_is_text, text_is_read};
 pub use reading::read_history;
