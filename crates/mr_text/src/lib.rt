@@ -7,7 +7,6 @@ mod orders;
 mod reading;
 mod reading_state;
 mod steps;
-mod stub;
 #[cfg(test)]
 mod tests;
 
