@@ -7,3 +7,4 @@ pub mod ItemLaws
 pub mod FormLaws
 pub mod RequestLaws
 pub mod LineLaws
+pub mod ByteLaws

@@ -2,7 +2,9 @@
 #![tactic(auto)]
 
 pub mod laws;
+mod cursor;
 mod line;
+mod numbers;
 mod skip;
 mod tail;
 
