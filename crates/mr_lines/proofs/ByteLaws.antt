@@ -1,5 +1,5 @@
 -- Words and numbers in the bytes of a line.
-use Rattle.std.proofs.Common.{◌≡◌, ◌≢◌, ℕ, zero, suc, ◌+◌, ◌<◌, ◌≤◌, ◌==◌, ◌&&◌, ◌||◌, Bool, true, false, not, nat_le, List, [], ◌∷◌, Option, Some, None, length, get_or, drop, take, slice_index, fold, refl, sym, ap, ◌∙◌, arith, inl, inr, add-one, eq-or-lt_of_le, eqb-true, eq-eqb, ne_eqb, le_refl, leb-true, le-leb, drop-cons, drop_of_length-le, take_all, lt-ltb}
+use Rattle.std.proofs.Common.{◌≡◌, ◌≢◌, ℕ, zero, suc, ◌+◌, ◌<◌, ◌≤◌, ◌==◌, ◌&&◌, ◌||◌, Bool, true, false, not, nat_le, List, [], ◌∷◌, Option, Some, None, length, get_or, drop, take, slice_index, fold, refl, sym, ap, ◌∙◌, arith, inl, inr, add-one, eq-or-lt_of_le, eqb-true, eq-eqb, ne_eqb, le_refl, leb-true, le-leb, drop-cons, drop_of_length-le, take_all, lt-ltb, codes, bytes_eq}
 use Rattle.std.proofs.lemmas.Bool.{and_parts, and_from, cases_Bool, or_cases, or_parts}
 use Rattle.std.specs.List.{list_all}
 use Rattle.std.specs.Prelude.{if◌then◌else◌, nat_lt}
@@ -173,3 +173,22 @@ number_read most n bs left reads is end = number_ends most bs (ap ends (sym is) 
 
 pub number_stuck : (most : ℕ) (bs left : List ℕ) → left ≡ past_digits bs → ends left ≡ false → one (number_of most) (parts_of 32 bs) ≡ None
 number_stuck most bs left is end = number_goes_on most bs (ap ends (sym is) ∙ end)
+
+-- the word `-`
+pub dash_ends : (left : List ℕ) → ends left ≡ true → parts_of 32 (45 ∷ left) ≡ codes "-" ∷ behind left
+dash_ends [] end = refl
+dash_ends (b ∷ bs) end =
+    let same : (b == 32) ≡ true = elim (or_cases (length (b ∷ bs) == 0) (b == 32) end) [ | inl empty ↦ absurd (cc (empty, some_length b bs)) | inr is ↦ is ] in
+    rw same refl
+
+pub dash_goes_on : (left : List ℕ) → ends left ≡ false → bytes_eq (before 32 (45 ∷ left)) (codes "-") ≡ false
+dash_goes_on [] end = absurd (cc)
+dash_goes_on (b ∷ bs) end =
+    let apart : (b == 32) ≡ false = (or_parts (length (b ∷ bs) == 0) (b == 32) end).1 in
+    rw apart refl
+
+pub no_dash : (b : ℕ) (bs : List ℕ) → (b ≡ 45 → ⊥) → bytes_eq (before 32 (b ∷ bs)) (codes "-") ≡ false
+no_dash b bs other = elim (cases_Bool (b == 32)) [
+    | inl space ↦ rw space refl
+    | inr word ↦ let apart : (b == 45) ≡ false = ne_eqb b 45 other in rw (word, apart) refl
+  ]

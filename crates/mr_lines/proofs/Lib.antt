@@ -8,3 +8,4 @@ pub mod FormLaws
 pub mod RequestLaws
 pub mod LineLaws
 pub mod ByteLaws
+pub mod MaskBytes

@@ -13,6 +13,10 @@ behind (b ∷ bs) = parts_of 32 bs
 abbrev pub ends : List ℕ → Bool
 ends bs = length bs == 0 || slice_index bs 0 == 32
 
+-- a comma stands here
+abbrev pub begins_comma : List ℕ → Bool
+begins_comma bs = not (length bs == 0) && slice_index bs 0 == 44
+
 -- the digits with which bytes begin
 abbrev pub digits_of : List ℕ → List ℕ
 digits_of [] = []

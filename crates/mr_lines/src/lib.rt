@@ -4,7 +4,11 @@
 pub mod laws;
 mod cursor;
 mod line;
+mod long_numbers;
 mod numbers;
+mod words;
+mod fields;
+mod masks;
 mod skip;
 mod tail;
 

@@ -3,7 +3,7 @@
 ghost use Rattle.std.specs.Prelude.{◌≡◌, ◌<◌, ◌≤◌, ◌==◌, ◌&&◌, nat_le, if◌then◌else◌, Some, None, IfSome, MatchOption, SomeIff, length, fold};
 ghost use Rattle.mr_lines.specs.Bytes.{behind, ends, digits_of, past_digits, begins_number, Gives};
 ghost use Rattle.mr_lines.specs.Fields.{one};
-ghost use Rattle.mr_lines.specs.Reading.{u8, u16, u32, u64};
+ghost use Rattle.mr_lines.specs.Reading.{u8, u16, u32};
 ghost use Rattle.mr_words.specs.Numbers.{digit_on, is_digit, number_of};
 ghost use Rattle.mr_words.specs.Parts.{parts_of};
 
@@ -11,7 +11,7 @@ use crate::cursor::ends;
 use mr_words::is_digit;
 
 /// Whether a number may begin here: a digit, and it is no zero before other digits.
-fn begins_number(bytes: &[u8]) -> bool
+pub fn begins_number(bytes: &[u8]) -> bool
     ensures { result ≡ begins_number bytes.now }
 {
     bytes.len() != 0 && is_digit(bytes[0]) && (bytes[0] != b'0' || bytes.len() == 1 || !is_digit(bytes[1]))
