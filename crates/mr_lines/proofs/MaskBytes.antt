@@ -1,10 +1,10 @@
 -- A mask in the bytes of a line, vif by vif.
-use Rattle.std.proofs.Common.{◌≡◌, ℕ, ◌+◌, ◌^◌, ◌<◌, ◌≤◌, ◌==◌, Bool, true, false, nat_le, List, [], ◌∷◌, Option, Some, None, length, refl, sym, ap, ◌∙◌, arith, inl, inr, ne_eqb, le-leb, leb-true, subst, slice_index, ◌⊎◌}
-use Rattle.std.proofs.lemmas.Bool.{cases_Bool, or_parts}
+use Rattle.std.proofs.Common.{◌≡◌, ℕ, ◌+◌, ◌^◌, ◌<◌, ◌≤◌, ◌==◌, Bool, true, false, nat_le, List, [], ◌∷◌, Option, Some, None, length, refl, sym, ap, ◌∙◌, arith, inl, inr, ne_eqb, le-leb, leb-true, subst, slice_index, ◌⊎◌, eq-eqb, eqb-true}
+use Rattle.std.proofs.lemmas.Bool.{cases_Bool, or_parts, and_parts}
 use Rattle.std.specs.List.{list_all}
 use Rattle.mr_words.specs.Numbers.{is_digit, number_of}
 use Rattle.mr_words.specs.Parts.{before, parts_behind, parts_of}
-use Rattle.mr_lines.specs.Bytes.{behind, ends, digits_of, past_digits}
+use Rattle.mr_lines.specs.Bytes.{behind, ends, begins_comma, digits_of, past_digits}
 use Rattle.mr_lines.specs.Fields.{leaving}
 use Rattle.mr_lines.specs.Forms.{Word}
 use Rattle.mr_lines.specs.Words.{with_vifs}
@@ -144,3 +144,32 @@ vif_broken least mask bs left is last other =
         let some : (length (b ∷ before 32 bs) == 0) ≡ false = ne_eqb (length (b ∷ before 32 bs)) 0 (λ e. omega (arith, e)) in
         let apart : (b == 44) ≡ false = ne_eqb b 44 (λ e. other (omega arith) e) in
         rw word (rw (some, apart) refl)
+
+-- no comma stands here
+pub no_comma : (left : List ℕ) → begins_comma left ≡ false → 0 < length left → slice_index left 0 ≡ 44 → ⊥
+no_comma [] other some is = absurd (omega arith)
+no_comma (b ∷ bs) other some is =
+    let long : (length (b ∷ bs) == 0) ≡ false = ne_eqb (length (b ∷ bs)) 0 (λ e. omega (arith, e)) in
+    let begins : begins_comma (b ∷ bs) ≡ true = rw (long, eq-eqb b 44 is) refl in
+    cc (other, begins)
+
+pub comma_first : (bs after more : List ℕ) → after ≡ past_digits bs → begins_comma after ≡ true → after ≡ slice_index after 0 ∷ more → past_digits bs ≡ 44 ∷ more
+comma_first bs after more is begins cut =
+    let byte : slice_index after 0 ≡ 44 = eqb-true (slice_index after 0) 44 (and_parts _ _ begins).1 in
+    sym is ∙ cut ∙ ap (λ b. b ∷ more) byte
+
+pub comma_some : (after : List ℕ) → begins_comma after ≡ true → 0 < length after
+comma_some [] begins = absurd (cc)
+comma_some (b ∷ bs) begins = omega arith
+
+past_short : (bs : List ℕ) → length (past_digits bs) ≤ length bs
+past_short [] = omega arith
+past_short (b ∷ bs) = elim (cases_Bool (is_digit b)) [
+    | inl digit ↦ rw digit (omega (arith, past_short bs))
+    | inr other ↦ rw other (omega arith)
+  ]
+
+pub shorter : (b : ℕ) (bs after more : List ℕ) → after ≡ past_digits bs → after ≡ b ∷ more → length more < length bs
+shorter b bs after more is cut =
+    let long : length (past_digits bs) ≡ length (b ∷ more) = ap length (sym is ∙ cut) in
+    omega (arith, past_short bs, long)

@@ -8,10 +8,15 @@ mod long_numbers;
 mod numbers;
 mod words;
 mod fields;
+mod items;
 mod masks;
+mod outcomes;
+mod reading;
+mod requests;
 mod skip;
 mod tail;
 
 pub use line::Line;
+pub use reading::read_line;
 pub use skip::Skip;
 pub use tail::{RouteLine, Tail, VifLine};

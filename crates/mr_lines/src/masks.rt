@@ -53,23 +53,15 @@ fn vifs(bytes: &[u8]) -> Option<(u32, &[u8])>
                 }
                 mask = with_vif(mask, vif);
                 if !is_comma(after) {
-                    return last(mask, after);
+                    if ends(after) {
+                        return Some((mask, after));
+                    }
+                    return None;
                 }
                 least = vif + 1;
                 left = past(after);
             }
         }
-    }
-}
-
-/// A mask whose word ends here.
-fn last(mask: u32, left: &[u8]) -> Option<(u32, &[u8])>
-    ensures { MatchOption result (ends left.now ≡ false) (λ x. (ends left.now ≡ true) × (x.0 ≡ mask) × (x.1.now ≡ left.now)) }
-{
-    if ends(left) {
-        Some((mask, left))
-    } else {
-        None
     }
 }
 
