@@ -8,7 +8,10 @@ use Rattle.mr_words.proofs.Digits.{grows}
 use Rattle.mr_words.specs.Numbers.{is_digit, leads_well, is_numeral, digit_on, number_of}
 use Rattle.mr_words.specs.Parts.{before, parts_behind, parts_of}
 use Rattle.mr_lines.specs.Bytes.{behind, ends, digits_of, past_digits, begins_number}
-use Rattle.mr_lines.specs.Fields.{one, leaving}
+use Rattle.std.proofs.lemmas.Option.{some_pair_parts}
+use Rattle.mr_lines.specs.Fields.{one, leaving, by_word}
+use Rattle.mr_lines.specs.Reading.{u64, entry_at, entry_of, numbered}
+use Rattle.mr_lines.specs.Words.{number64}
 use Rattle.mr_lines.specs.Forms.{Word}
 
 -- the first word, and what is left
@@ -192,3 +195,15 @@ no_dash b bs other = elim (cases_Bool (b == 32)) [
     | inl space ↦ rw space refl
     | inr word ↦ let apart : (b == 45) ≡ false = ne_eqb b 45 other in rw (word, apart) refl
   ]
+
+-- what a word that is read left
+pub left_is : {A : Type 0} (ws vs : List Word) (o : Option A) (x : A) → leaving ws o ≡ Some (x, vs) → (o ≡ Some x) × (ws ≡ vs)
+left_is ws vs None x e = absurd (cc)
+left_is ws vs (Some y) x e = let parts = some_pair_parts y x ws vs e in (ap Some parts.0, parts.1)
+
+-- an entry's number, and the word behind it
+pub number_leads : (bs : List ℕ) (n : ℕ) (v : Word) (ws vs : List Word) → u64 (parts_of 32 bs) ≡ Some (n, ws) → ws ≡ v ∷ vs →
+    numbered (before 32 bs) (parts_behind 32 bs) ≡ entry_at n v vs
+number_leads bs n v ws vs reads is =
+    let known = left_is (parts_behind 32 bs) ws (number64 (before 32 bs)) n reads in
+    (λ i. entry_of (known.0 i) (known.1 i)) ∙ ap (by_word (entry_at n)) is

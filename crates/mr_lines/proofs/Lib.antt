@@ -9,3 +9,4 @@ pub mod RequestLaws
 pub mod LineLaws
 pub mod ByteLaws
 pub mod MaskBytes
+pub mod RecordLaws

@@ -61,7 +61,7 @@ use Rattle.mr_lines.specs.Reading.{is_outcome, to_released, to_record, dash_at, 
 use Rattle.std.specs.Prelude.{◌||◌}
 
 -- both numbers behind `-`
-pair_field : IsField (both u32 u32) (λ p. decimal p.0 ∷ decimal p.1 ∷ []) (λ p. Fits32 p.0 × Fits32 p.1)
+pub pair_field : IsField (both u32 u32) (λ p. decimal p.0 ∷ decimal p.1 ∷ []) (λ p. Fits32 p.0 × Fits32 p.1)
 pair_field = both_field _ _ _ _ _ _ u32_field u32_field
 
 -- what stands behind both numbers

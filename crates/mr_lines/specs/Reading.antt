@@ -297,3 +297,15 @@ line_at w ws =
 -- the line that words spell
 abbrev pub line_of : List Word → Option Line
 line_of ws = whole (by_word line_at) ws
+
+-- the fields of a record alone
+abbrev pub record_behind : ((ℕ × ℕ) × List Word) → Option (FastRecord × List Word)
+record_behind x = mapped (record_of x.0) (both u32 (both vif_or_none mask)) x.1
+
+abbrev pub record_fields : Read FastRecord
+record_fields ws = option_and_then record_behind (both u32 u32 ws)
+
+-- the record that a line is
+abbrev pub as_record : Line → Option FastRecord
+as_record (line.Record r) = Some r
+as_record _ = None

@@ -17,6 +17,6 @@ mod skip;
 mod tail;
 
 pub use line::Line;
-pub use reading::read_line;
+pub use reading::{read_line, read_record};
 pub use skip::Skip;
 pub use tail::{RouteLine, Tail, VifLine};

@@ -1,14 +1,14 @@
 //! Lines, read from their bytes.
 
-ghost use Rattle.std.specs.Prelude.{◌≡◌, ◌∷◌, codes};
+ghost use Rattle.std.specs.Prelude.{◌≡◌, ◌∷◌, codes, option_and_then};
 ghost use Rattle.mr_lines.specs.Bytes.{behind, Gives};
 ghost use Rattle.mr_lines.specs.Fields.{by_word, both, mapped, keyword, whole};
-ghost use Rattle.mr_lines.specs.Reading.{u32, lane, daemon, vif_or_none, mask, skip, route, vif, fate_line, is_outcome, happened, to_released, record_of, dash, to_call, to_slow, entry_at, numbered, line_at, line_of, asked, replied};
+ghost use Rattle.mr_lines.specs.Reading.{u32, lane, daemon, vif_or_none, mask, skip, route, vif, fate_line, is_outcome, happened, to_released, record_of, record_fields, as_record, dash, to_call, to_slow, entry_at, numbered, line_at, line_of, asked, replied};
 ghost use Rattle.mr_lines.specs.declared.line.Line.TheVariants as line;
 ghost use Rattle.mr_words.specs.Parts.{parts_of};
 
 use crate::cursor::{first_word, next_word};
-use crate::fields::{addr_at, daemon_at, lane_at, name_at, route_totals_at, vif_or_none_at, vif_totals_at};
+use crate::fields::{addr_at, daemon_at, lane_at, name_at, past_dash, route_totals_at, vif_or_none_at, vif_totals_at};
 use crate::line::Line;
 use crate::long_numbers::{first_u64, u64_at};
 use crate::masks::mask_at;
@@ -17,7 +17,7 @@ use crate::outcomes::{fate_at, message_at, outcome_at};
 use crate::requests::{asked_at, reply_at};
 use crate::skip::Skip;
 use crate::tail::{RouteLine, VifLine};
-use mr_base::{DaemonNo, LaneNo};
+use mr_base::LaneNo;
 use mr_model::{FastRecord, FateLine, Flow, ReleasedId};
 
 fn skip_at(rest: &[u8]) -> Option<(Skip, &[u8])>
@@ -109,6 +109,37 @@ fn record_at(index: u32, look: u32, rest: &[u8]) -> Option<(FastRecord, &[u8])>
         },
         rest,
     ))
+}
+
+/// The fields of a record.
+fn record_fields(rest: &[u8]) -> Option<(FastRecord, &[u8])>
+    ensures { Gives (λ r. r.now) result (record_fields (behind rest.now)) }
+{
+    let (index, rest) = u32_at(rest)?;
+    let (look, rest) = u32_at(rest)?;
+    record_at(index, look, rest)
+}
+
+/// The fields of a record, and nothing behind them.
+fn whole_record(rest: &[u8]) -> Option<FastRecord>
+    ensures { result ≡ whole record_fields (behind rest.now) }
+{
+    let (record, rest) = record_fields(rest)?;
+    if rest.len() == 0 {
+        Some(record)
+    } else {
+        None
+    }
+}
+
+/// The record whose line bytes without a line feed spell, if they spell one. It is quicker than `read_line`.
+pub fn read_record(line: &[u8]) -> Option<FastRecord>
+    ensures { result ≡ option_and_then as_record (line_of (parts_of 32 line.now)) }
+{
+    match past_dash(line) {
+        None => None,
+        Some(left) => whole_record(left),
+    }
 }
 
 /// A released packet or a record: what stands behind both numbers tells.
