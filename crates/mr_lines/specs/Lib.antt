@@ -5,3 +5,4 @@ pub mod Fields
 pub mod Words
 pub mod Reading
 pub mod Laws
+pub mod Bytes
