@@ -1,5 +1,5 @@
 -- Laws of the items `V:T` of a request.
-use Rattle.std.proofs.Common.{◌≡◌, ℕ, zero, suc, ◌+◌, ◌<◌, ◌≤◌, ◌==◌, ◌&&◌, Bool, true, false, List, [], ◌∷◌, ◌++◌, Option, Some, None, length, drop, slice_index, decimal, codes, refl, sym, ap, ◌∙◌, arith, lit<, inl, inr, eqb-true, eq-eqb, ne_eqb, append_assoc, subst}
+use Rattle.std.proofs.Common.{◌≡◌, ℕ, zero, suc, ◌+◌, ◌<◌, ◌≤◌, ◌==◌, ◌&&◌, Bool, true, false, List, [], ◌∷◌, ◌++◌, Option, Some, None, length, drop, slice_index, decimal, codes, refl, sym, ap, ◌∙◌, arith, lit<, inl, inr, eqb-true, eq-eqb, ne_eqb, append_assoc, subst, append-nil, take, set, take_all, take-suc-set, add-one, ◌-◌}
 use Rattle.std.proofs.lemmas.Bool.{and_from, cases_Bool}
 use Rattle.std.specs.List.{list_all, join_with_byte}
 use Rattle.std.specs.Prelude.{if◌then◌else◌}
@@ -122,3 +122,25 @@ ttls_clean (t ∷ ts) i fits small = by_case (t == 0) refl (ttls_clean ts (i + 1
     by_case : (b : Bool) → (t == 0) ≡ b → are_free (thresholds (i + 1) ts) ≡ true → are_free (thresholds i (t ∷ ts)) ≡ true
     by_case true none inner = rw none inner
     by_case false some inner = rw some (and_from _ _ (item_free i t (omega arith) (small 0)) inner)
+
+-- One threshold more is read.
+pub ttls_step : (i t : ℕ) (ts whole : List ℕ) (ws more rest : List Word) → i < 32 → length ts ≡ 32 → t ≡ first_for i ws → more ≡ (if first_for i ws == 0 then ws else drop 1 ws) →
+    take i ts ++ (ttls_from (32 - i) i ws).0 ≡ whole → (ttls_from (32 - i) i ws).1 ≡ rest →
+    (take (i + 1) (set ts i t) ++ (ttls_from (32 - (i + 1)) (i + 1) more).0 ≡ whole) × ((ttls_from (32 - (i + 1)) (i + 1) more).1 ≡ rest)
+unfolding ttls_from
+ttls_step i t ts whole ws more rest within long first left done others =
+    let less : 32 - i ≡ suc (32 - (i + 1)) = omega arith in
+    let cut : ttls_from (32 - i) i ws ≡ onto t (ttls_from (32 - (i + 1)) (i + 1) more) = ap (λ k. ttls_from k i ws) less ∙ (λ j. onto (sym first j) (ttls_from (32 - (i + 1)) (i + 1) (sym left j))) in
+    let next : i + 1 ≡ suc i = add-one i in
+    let front : take (i + 1) (set ts i t) ≡ take i ts ++ t ∷ [] = ap (λ n. take n (set ts i t)) next ∙ take-suc-set ts i t (omega (arith, long)) in
+    (ap (λ l. l ++ (ttls_from (32 - (i + 1)) (i + 1) more).0) front ∙ append_assoc (take i ts) (t ∷ []) (ttls_from (32 - (i + 1)) (i + 1) more).0 ∙ ap (λ x. take i ts ++ x.0) (sym cut) ∙ done,
+     ap (λ x. x.1) (sym cut) ∙ others)
+
+-- All thresholds are read.
+pub ttls_done : (i : ℕ) (ts whole : List ℕ) (ws rest : List Word) → 32 ≤ i → length ts ≡ 32 → take i ts ++ (ttls_from (32 - i) i ws).0 ≡ whole → (ttls_from (32 - i) i ws).1 ≡ rest → (ts ≡ whole) × (ws ≡ rest)
+unfolding ttls_from
+ttls_done i ts whole ws rest over long done others =
+    let none : 32 - i ≡ 0 = omega arith in
+    let end : ttls_from (32 - i) i ws ≡ ([], ws) = ap (λ k. ttls_from k i ws) none in
+    let short : length ts ≤ i = omega (arith, long) in
+    (sym (append-nil ts) ∙ ap (λ l. l ++ []) (sym (take_all i ts short)) ∙ ap (λ x. take i ts ++ x.0) (sym end) ∙ done, ap (λ x. x.1) (sym end) ∙ others)

@@ -9,3 +9,6 @@ pub mod ItemLaws
 pub mod FormLaws
 pub mod RequestLaws
 pub mod LineLaws
+pub mod ByteLaws
+pub mod MaskBytes
+pub mod RecordLaws

@@ -61,7 +61,7 @@ use Rattle.mr_lines.specs.Reading.{is_outcome, to_released, to_record, dash_at, 
 use Rattle.std.specs.Prelude.{◌||◌}
 
 -- both numbers behind `-`
-pair_field : IsField (both u32 u32) (λ p. decimal p.0 ∷ decimal p.1 ∷ []) (λ p. Fits32 p.0 × Fits32 p.1)
+pub pair_field : IsField (both u32 u32) (λ p. decimal p.0 ∷ decimal p.1 ∷ []) (λ p. Fits32 p.0 × Fits32 p.1)
 pair_field = both_field _ _ _ _ _ _ u32_field u32_field
 
 -- what stands behind both numbers
@@ -173,8 +173,8 @@ line_takes ws l e =
     whole_of (k, v ∷ vs) reads given = absurd (cc)
 
 -- A number is the first word of an entry's line.
-numbered : (n : ℕ) (ws : List Word) → Fits64 n → line_at (decimal n) ws ≡ by_word (entry_at n) ws
-numbered n ws fits =
+number_first : (n : ℕ) (ws : List Word) → Fits64 n → line_at (decimal n) ws ≡ by_word (entry_at n) ws
+number_first n ws fits =
     let most : 18446744073709551615 < 2 ^ 64 = lit< tt in
     rw (no_keyword 18446744073709551615 n (codes "history") most fits refl, no_keyword 18446744073709551615 n (codes "skip") most fits refl,
         no_keyword 18446744073709551615 n (codes "-") most fits refl, no_keyword 18446744073709551615 n (codes "route") most fits refl,
@@ -202,18 +202,18 @@ line_again_before : (l : Line) → LineFits l → by_word line_at (line_words l 
 line_again_before line.History fits = refl
 line_again_before (line.Skip s) fits = ap (option_and_then (renamed line.Skip)) (skip_field.again s [] fits)
 line_again_before (line.Call n d r reply) fits =
-    ap (λ ws. by_word line_at (ws ++ [])) (call_words n (d, (r, reply))) ∙ numbered n (codes "call" ∷ decimal d.0 ∷ ((asked_words r ++ reply_words reply) ++ [])) fits.0 ∙ ap (option_and_then (renamed (to_call n))) (call_again (d, (r, reply)) fits.1)
+    ap (λ ws. by_word line_at (ws ++ [])) (call_words n (d, (r, reply))) ∙ number_first n (codes "call" ∷ decimal d.0 ∷ ((asked_words r ++ reply_words reply) ++ [])) fits.0 ∙ ap (option_and_then (renamed (to_call n))) (call_again (d, (r, reply)) fits.1)
 line_again_before (line.Released r) fits =
     ap (option_and_then behind_numbers) (pair_field.again (r.lane.0, r.index) (outcome_words r.outcome ++ []) (fits.0, fits.1.0)) ∙ released_again (r.lane.0, r.index) r.outcome fits.1.1
-line_again_before (line.Slow n lane index look o) fits = numbered n (codes "slow" ∷ decimal lane.0 ∷ decimal index ∷ decimal look ∷ (outcome_words o ++ [])) fits.0 ∙ ap (option_and_then (renamed (to_slow n))) (slow_field.again (lane, (index, (look, o))) [] fits.1)
-line_again_before (line.Settle n lane count) fits = numbered n (codes "settle" ∷ decimal lane.0 ∷ decimal count ∷ []) fits.0 ∙ ap (option_and_then (renamed (to_settle n))) (settle_field.again (lane, count) [] fits.1)
+line_again_before (line.Slow n lane index look o) fits = number_first n (codes "slow" ∷ decimal lane.0 ∷ decimal index ∷ decimal look ∷ (outcome_words o ++ [])) fits.0 ∙ ap (option_and_then (renamed (to_slow n))) (slow_field.again (lane, (index, (look, o))) [] fits.1)
+line_again_before (line.Settle n lane count) fits = number_first n (codes "settle" ∷ decimal lane.0 ∷ decimal count ∷ []) fits.0 ∙ ap (option_and_then (renamed (to_settle n))) (settle_field.again (lane, count) [] fits.1)
 line_again_before (line.Record r) fits =
     ap (option_and_then behind_numbers) (pair_field.again (r.index, r.look) (forward_words (r.entry, (r.input, r.outs)) ++ []) (fits.0, fits.1.0))
     ∙ record_again (r.index, r.look) r (fits.1.1.0, (fits.1.1.1.0, fits.1.1.1.1.0))
     ∙ ap (λ f. Some (line.Record (record r { flow = f }), [])) (sym fits.1.1.1.1.1)
-line_again_before (line.Tick n d ms) fits = numbered n (codes "tick" ∷ decimal d.0 ∷ decimal ms ∷ []) fits.0 ∙ ap (option_and_then (renamed (to_tick n))) (tick_field.again (d, ms) [] fits.1)
-line_again_before (line.Recv n d message) fits = numbered n (codes "recv" ∷ decimal d.0 ∷ (message_words message ++ [])) fits.0 ∙ ap (option_and_then (renamed (to_recv n))) (recv_field.again (d, message) [] fits.1)
-line_again_before (line.Phase n) fits = numbered n (codes "phase" ∷ []) fits
+line_again_before (line.Tick n d ms) fits = number_first n (codes "tick" ∷ decimal d.0 ∷ decimal ms ∷ []) fits.0 ∙ ap (option_and_then (renamed (to_tick n))) (tick_field.again (d, ms) [] fits.1)
+line_again_before (line.Recv n d message) fits = number_first n (codes "recv" ∷ decimal d.0 ∷ (message_words message ++ [])) fits.0 ∙ ap (option_and_then (renamed (to_recv n))) (recv_field.again (d, message) [] fits.1)
+line_again_before (line.Phase n) fits = number_first n (codes "phase" ∷ []) fits
 line_again_before (line.Route r) fits = ap (option_and_then (renamed line.Route)) (route_field.again r [] fits)
 line_again_before (line.Vif v) fits = ap (option_and_then (renamed line.Vif)) (vif_line_field.again v [] fits)
 line_again_before (line.Fate f) fits = ap (option_and_then (renamed line.Fate)) (fate_line_field.again f [] fits)

@@ -1,6 +1,7 @@
 -- Laws of single words.
-use Rattle.std.proofs.Common.{◌≡◌, ℕ, zero, suc, ◌+◌, ◌-◌, ◌*◌, ◌/◌, ◌%◌, ◌^◌, ◌<◌, ◌≤◌, ◌==◌, ◌&&◌, ◌||◌, Bool, true, false, not, List, [], ◌∷◌, ◌++◌, Option, Some, None, option_and_then, option_map, length, decimal, codes, bytes_eq, refl, sym, ap, ◌∙◌, arith, lit<, lit≤, inl, inr, eqb-true, subst, append_assoc}
+use Rattle.std.proofs.Common.{◌≡◌, ℕ, zero, suc, ◌+◌, ◌-◌, ◌*◌, ◌/◌, ◌%◌, ◌^◌, ◌<◌, ◌≤◌, ◌==◌, ◌&&◌, ◌||◌, Bool, true, false, not, List, [], ◌∷◌, ◌++◌, Option, Some, None, option_and_then, option_map, length, decimal, codes, bytes_eq, refl, sym, ap, ◌∙◌, arith, lit<, lit≤, inl, inr, eqb-true, subst, append_assoc, le-leb}
 use Rattle.std.proofs.lemmas.Bool.{and_parts, and_from, cases_Bool, or_cases}
+use Rattle.std.proofs.lemmas.Bool.Decides.{nat_tests}
 use Rattle.std.proofs.lemmas.Fmt.{decimal-digits_value}
 use Rattle.std.proofs.lemmas.Option.{cond_some}
 use Rattle.std.proofs.lemmas.List.Folds.{list_all-append}
@@ -17,7 +18,7 @@ use Rattle.mr_model.specs.declared.outcome.Cause.TheVariants as cause
 use Rattle.mr_model.specs.declared.outcome.Report.{Report}
 use Rattle.mr_model.specs.declared.outcome.Report.TheVariants as report
 use Rattle.mr_model.specs.declared.request.VifCtl.{VifCtl}
-use Rattle.mr_words.specs.Names.{is_letter, is_name_byte, begins_name, is_device_name}
+use Rattle.mr_words.specs.Names.{is_plain, is_clean, is_letter, is_name_byte, begins_name, is_device_name}
 use Rattle.mr_words.specs.Numbers.{number_of, joined, four_parts, address_of}
 use Rattle.mr_words.specs.Parts.{parts_of}
 use Rattle.mr_lines.specs.Fit.{AddrFits, Fits8, Fits32, VifFits, is_vif_name}
@@ -209,6 +210,20 @@ name_byte_free b h = elim (cases_Bool (b == 32)) [
 name_bytes_free : (w : Word) → list_all is_name_byte w ≡ true → list_all is_free w ≡ true
 name_bytes_free [] h = refl
 name_bytes_free (b ∷ w) h = let split = and_parts _ _ h in and_from _ _ (name_byte_free b split.0) (name_bytes_free w split.1)
+
+-- bytes of names are plain
+name_byte_plain : (b : ℕ) → is_name_byte b ≡ true → is_plain b ≡ true
+name_byte_plain b h = and_from _ _ (le-leb 32 b (grind (arith, nat_tests))) (le-leb b 126 (grind (arith, nat_tests)))
+
+name_bytes_plain : (w : Word) → list_all is_name_byte w ≡ true → is_clean w ≡ true
+name_bytes_plain [] h = refl
+name_bytes_plain (b ∷ w) h = let split = and_parts _ _ h in and_from _ _ (name_byte_plain b split.0) (name_bytes_plain w split.1)
+
+pub name_plain : (w : Word) → NameFits w → is_clean w ≡ true
+name_plain w fits = elim (or_cases _ _ fits) [
+    | inl device ↦ name_bytes_plain w (and_parts _ _ device).1
+    | inr register ↦ let same : w ≡ codes "pimreg" = same_bytes w (codes "pimreg") register in rw same refl
+  ]
 
 name_clean : (w : Word) → NameFits w → list_all is_free w ≡ true
 name_clean w fits = elim (or_cases _ _ fits) [

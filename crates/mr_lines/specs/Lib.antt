@@ -6,3 +6,4 @@ pub mod Words
 pub mod Reading
 pub mod Written
 pub mod Laws
+pub mod Bytes

@@ -185,8 +185,11 @@ is_outcome w = bytes_eq w (codes "fwd") || bytes_eq w (codes "reg") || bytes_eq 
 abbrev pub to_released : (ℕ × ℕ) → Outcome → Line
 to_released p o = line.Released (record { lane = to_lane p.0; index = p.1; outcome = o })
 
+abbrev pub record_of : (ℕ × ℕ) → (ℕ × (Option ℕ × Mask)) → FastRecord
+record_of p q = record { index = p.0; look = p.1; entry = q.0; input = q.1.0; outs = q.1.1; flow = no_flow }
+
 abbrev pub to_record : (ℕ × ℕ) → (ℕ × (Option ℕ × Mask)) → Line
-to_record p q = line.Record (record { index = p.0; look = p.1; entry = q.0; input = q.1.0; outs = q.1.1; flow = no_flow })
+to_record p q = line.Record (record_of p q)
 
 abbrev pub dash_at : (ℕ × ℕ) → Word → Read Line
 dash_at p w ws =
@@ -276,6 +279,9 @@ abbrev pub entry_of : Option ℕ → Read Line
 entry_of None ws = None
 entry_of (Some n) ws = by_word (entry_at n) ws
 
+abbrev pub numbered : Word → Read Line
+numbered w ws = entry_of (number64 w) ws
+
 -- a line by its first word; that of an entry is its number
 abbrev pub line_at : Word → Read Line
 line_at w ws =
@@ -286,8 +292,20 @@ line_at w ws =
     else if bytes_eq w (codes "vif") then mapped line.Vif vif ws
     else if bytes_eq w (codes "fate") then mapped line.Fate fate_line ws
     else if bytes_eq w (codes "end") then done line.End ws
-    else entry_of (number64 w) ws
+    else numbered w ws
 
 -- the line that words spell
 abbrev pub line_of : List Word → Option Line
 line_of ws = whole (by_word line_at) ws
+
+-- the fields of a record alone
+abbrev pub record_behind : ((ℕ × ℕ) × List Word) → Option (FastRecord × List Word)
+record_behind x = mapped (record_of x.0) (both u32 (both vif_or_none mask)) x.1
+
+abbrev pub record_fields : Read FastRecord
+record_fields ws = option_and_then record_behind (both u32 u32 ws)
+
+-- the record that a line is
+abbrev pub as_record : Line → Option FastRecord
+as_record (line.Record r) = Some r
+as_record _ = None

@@ -6,3 +6,4 @@ pub mod Leading
 pub mod Pieces
 pub mod Finding
 pub mod TextLaws
+pub mod Beginning

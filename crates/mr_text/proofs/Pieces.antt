@@ -100,11 +100,11 @@ one_text read ks h t ks' h' t' p p' e =
     (ap (λ (p : HistoryText). p.skips) is, ap (λ (p : HistoryText). p.entries) is, ap (λ (p : HistoryText). p.tail) is)
 
 -- A line number that is given is none before the first.
-bind_err : (n m : ℕ) (o : Option State) (f : State → Result State ℕ) → (line_gives n o >>= f) ≡ Err m → ((o ≡ None) × (n ≡ m)) ⊎ ((u : State) × (o ≡ Some u) × (f u ≡ Err m))
+pub bind_err : (n m : ℕ) (o : Option State) (f : State → Result State ℕ) → (line_gives n o >>= f) ≡ Err m → ((o ≡ None) × (n ≡ m)) ⊎ ((u : State) × (o ≡ Some u) × (f u ≡ Err m))
 bind_err n m None f e = inl (refl, cc e)
 bind_err n m (Some u) f e = inr (u, refl, e)
 
-last_err : (b : Bool) (n m : ℕ) (s : State) → (if b then Ok s else Err n) ≡ Err m → n ≡ m
+pub last_err : (b : Bool) (n m : ℕ) (s : State) → (if b then Ok s else Err n) ≡ Err m → n ≡ m
 last_err true n m s e = absurd (cc e)
 last_err false n m s e = cc e
 
@@ -114,10 +114,10 @@ at_most_next i h = grind arith
 next_at_most : (i : ℕ) → next_line i ≤ 4294967295
 next_at_most i = grind arith
 
-next_is : (i : ℕ) → i < 4294967295 → next_line i ≡ i + 1
+pub next_is : (i : ℕ) → i < 4294967295 → next_line i ≡ i + 1
 next_is i h = grind arith
 
-walk_least : (ps : List (List ℕ)) (i j : ℕ) (s : State) → i ≤ 4294967295 → walk i s ps ≡ Err j → i ≤ j
+pub walk_least : (ps : List (List ℕ)) (i j : ℕ) (s : State) → i ≤ 4294967295 → walk i s ps ≡ Err j → i ≤ j
 walk_least [] i j s low e = let same : i ≡ j = cc e in omega arith
 walk_least (p ∷ []) i j s low e = let same : i ≡ j = last_err (s.ended && is_empty p) i j s e in omega arith
 walk_least (p ∷ q ∷ qs) i j s low e =
@@ -189,7 +189,7 @@ take_all_of P (suc n) [] a = tt
 take_all_of P (suc n) (x ∷ xs) a = (a.0, take_all_of P n xs a.1)
 
 -- Pieces that stand before other bytes, each with its line feed, are cut again.
-abbrev lines_again : List (List ℕ) → List ℕ
+abbrev pub lines_again : List (List ℕ) → List ℕ
 lines_again ps = flat_map (λ piece. piece ++ 10 ∷ []) ps
 
 cut_again : (ps : List (List ℕ)) (rest : List ℕ) → AllByRecursion IsOne ps → parts_of 10 (lines_again ps ++ rest) ≡ ps ++ parts_of 10 rest
@@ -200,7 +200,7 @@ cut_again (p ∷ ps) rest a =
     append_assoc (p ++ 10 ∷ []) (lines_again ps) rest ∙ append_assoc p (10 ∷ []) (lines_again ps ++ rest) in
     ap (parts_of 10) same ∙ ap (λ q. q ∷ parts_behind 10 (p ++ 10 ∷ (lines_again ps ++ rest))) both.0 ∙ ap (λ qs. p ∷ qs) (both.1 ∙ cut_again ps rest a.1)
 
-parts_err : (r : Result State ℕ) (n : ℕ) → parts_result r ≡ Err n → r ≡ Err n
+pub parts_err : (r : Result State ℕ) (n : ℕ) → parts_result r ≡ Err n → r ≡ Err n
 parts_err (Ok t) n e = absurd (cc e)
 parts_err (Err m) n e = ap (λ i. Err i) (cc e)
 
@@ -226,7 +226,7 @@ pub none_begins : TextIsRead → NoneBegins
 none_begins read bytes n e within low ks h t rest p same =
     err_not_ok n (read_parts ks h t) (walked (text ks h t)) (ap walked same ∙ stuck_text bytes rest n e within low) (read ks h t p)
 
-take_zero : {A : Type 0} (xs : List A) → take 0 xs ≡ []
+pub take_zero : {A : Type 0} (xs : List A) → take 0 xs ≡ []
 take_zero [] = refl
 take_zero (x ∷ xs) = refl
 

@@ -38,12 +38,12 @@ bind_ok n None f t e = absurd (cc e)
 bind_ok n (Some u) f t e = (u, refl, e)
 
 -- the line that a piece is
-line_told : LineTakes → SpacedAgain → (s u : State) (p : List ℕ) → Sound s → line_step (next_of s) s p ≡ Some u
-    → (l : Line) × LineFits l × (p ≡ spaced (line_words l)) × Takes s l u
+pub line_told : LineTakes → SpacedAgain → (s u : State) (p : List ℕ) → Sound s → line_step (next_of s) s p ≡ Some u
+    → (l : Line) × LineFits l × (p ≡ spaced (line_words l)) × Takes s l u × (step (next_of s) s l ≡ Some u)
 line_told takes again s u p k e =
     let found : (l : Line) × (line_of (parts_of 32 p) ≡ Some l) × (step (next_of s) s l ≡ Some u) = then_some (line_of (parts_of 32 p)) (step (next_of s) s) u e in
     let is : (parts_of 32 p ≡ line_words found.0) × LineFits found.0 = takes (parts_of 32 p) found.0 found.1 in
-    (found.0, is.1, sym (again p) ∙ ap spaced is.0, step_told s found.0 u k found.2)
+    (found.0, is.1, sym (again p) ∙ ap spaced is.0, step_told s found.0 u k found.2, found.2)
 
 pub next_told : (s u : State) (l : Line) → told u ≡ told s ++ l ∷ [] → next_line (next_of s) ≡ next_of u
 next_told s u l e =
@@ -59,7 +59,7 @@ walk_told takes again (q ∷ qs) p s t k e =
     let found : (u : State) × (line_step (next_of s) s p ≡ Some u) × (walk (next_line (next_of s)) u (q ∷ qs) ≡ Ok t) =
     bind_ok (next_of s) (line_step (next_of s) s p) (λ u. walk (next_line (next_of s)) u (q ∷ qs)) t e in
     let u : State = found.0 in
-    let one : (l : Line) × LineFits l × (p ≡ spaced (line_words l)) × Takes s l u = line_told takes again s u p k found.1 in
+    let one : (l : Line) × LineFits l × (p ≡ spaced (line_words l)) × Takes s l u × (step (next_of s) s l ≡ Some u) = line_told takes again s u p k found.1 in
     let goes : walk (next_of u) u (q ∷ qs) ≡ Ok t = ap (λ i. walk i u (q ∷ qs)) (sym (next_told s u one.0 one.3.1)) ∙ found.2 in
     let more : Walks u t (q ∷ qs) = walk_told takes again qs q u t one.3.0 goes in (
       one.0 ∷ more.0,
@@ -83,7 +83,7 @@ ended_closed t (current.Call d r reply released) w e = absurd (not_both t.ended 
 ended_closed t (current.Settle lane records left) w e = absurd (not_both t.ended e w.4)
 
 -- what an ended state has taken are the lines of its parts
-ended_told : (t : State) → Sound t → t.ended ≡ true → told t ≡ text_lines t.skips t.entries (parts t).tail
+pub ended_told : (t : State) → Sound t → t.ended ≡ true → told t ≡ text_lines t.skips t.entries (parts t).tail
 ended_told t k e =
     let none : t.current ≡ current.Nothing = ended_closed t t.current k.open_in e in
     whole_joined line.History (begin_line t.begun) (map line.Skip t.skips) (entries_lines 1 t.entries) (current_lines (length t.entries + 1) t.current) (map line.Route t.routes) (map line.Vif t.vifs) (map line.Fate t.fates) (end_line t.ended)
@@ -93,19 +93,23 @@ ended_told t k e =
 abbrev IsRead : List ℕ → HistoryText → Type 0
 IsRead bytes p = PartsFit p.skips p.entries p.tail × (bytes ≡ text p.skips p.entries p.tail) × (p.lines ≡ first_lines p.skips p.entries)
 
+pub parts_fit : (t : State) → Sound t → t.ended ≡ true → AllByRecursion LineFits (told t) → PartsFit t.skips t.entries (parts t).tail
+parts_fit t k e fits =
+    record {
+      lines = subst (AllByRecursion LineFits) (ended_told t k e) fits;
+      each = k.each;
+      skips_rise = k.skips_rise;
+      routes_rise = k.routes_rise;
+      vifs_rise = k.vifs_rise;
+    }
+
 state_read : LineTakes → SpacedAgain → (bytes : List ℕ) (t : State) → walk 1 first_state (parts_of 10 bytes) ≡ Ok t → IsRead bytes (parts t)
 state_read takes again bytes t e =
     let all : Walks first_state t (parts_of 10 bytes) = walk_told takes again (parts_behind 10 bytes) (before 10 bytes) first_state t first_sound e in
     let k : Sound t = all.4 in
     let same : all.0 ≡ text_lines t.skips t.entries (parts t).tail = sym all.3 ∙ ended_told t k all.5 in
     let none : t.current ≡ current.Nothing = ended_closed t t.current k.open_in all.5 in (
-      record {
-        lines = subst (AllByRecursion LineFits) same all.1;
-        each = k.each;
-        skips_rise = k.skips_rise;
-        routes_rise = k.routes_rise;
-        vifs_rise = k.vifs_rise;
-      },
+      parts_fit t k all.5 (subst (AllByRecursion LineFits) (sym all.3) all.1),
       sym (rejoined 10 bytes) ∙ all.2 ∙ ap (flat_map line_text) same,
       k.firsts ∙ ap (λ c. first_lines t.skips (t.entries ++ current_entries c)) none ∙ ap (first_lines t.skips) (append-nil t.entries),
     )

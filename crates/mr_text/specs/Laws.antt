@@ -1,5 +1,5 @@
 -- What is read is the text of its parts, each text is read, and a text with a line outside the grammar begins no text.
-use Rattle.std.specs.Prelude.{◌≡◌, ℕ, ◌<◌, Ok, Err, List, ◌++◌, length}
+use Rattle.std.specs.Prelude.{◌≡◌, ℕ, ◌-◌, ◌<◌, Ok, Err, List, ◌++◌, length}
 use Rattle.mr_lines.specs.declared.skip.Skip.{Skip}
 use Rattle.mr_lines.specs.declared.tail.Tail.{Tail}
 use Rattle.mr_model.specs.declared.entry.Entry.{Entry}
@@ -33,3 +33,8 @@ NoneBegins = (bytes : List ℕ) (n : ℕ) → walked bytes ≡ Err n → n < len
 -- Bytes begin with their first n lines, where a line feed ends each of these.
 abbrev pub FirstLines : Type 0
 FirstLines = (bytes : List ℕ) (n : ℕ) → n < length (parts_of 10 bytes) → (rest : List ℕ) × (bytes ≡ first_bytes n bytes ++ rest)
+
+-- The lines before the first that may not come begin a text of parts that fit.
+abbrev pub LinesBegin : Type 0
+LinesBegin = (bytes : List ℕ) (n : ℕ) → walked bytes ≡ Err n → n < 4294967295
+    → (skips : List Skip) × (h : List Entry) × (t : Tail) × (rest : List ℕ) × PartsFit skips h t × (text skips h t ≡ first_bytes (n - 1) bytes ++ rest)

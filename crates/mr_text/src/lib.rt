@@ -7,7 +7,6 @@ mod orders;
 mod reading;
 mod reading_state;
 mod steps;
-mod stub;
 #[cfg(test)]
 mod tests;
 #[cfg(test)]
@@ -15,6 +14,6 @@ mod tests_writing;
 mod writing;
 
 pub use history_text::{HistoryText, TextError};
-pub use laws::{none_begins, one_text, read_is_text, text_is_read};
+pub use laws::{lines_begin, none_begins, one_text, read_is_text, text_is_read};
 pub use reading::read_history;
 pub use writing::{write_entry, write_history, write_skips, write_tail};

@@ -9,9 +9,8 @@ ghost use Rattle.mr_text.specs.Whole.{PartsFit, first_lines};
 use crate::history_text::{HistoryText, TextError};
 use crate::reading_state::{Current, State};
 use crate::steps::{record, step};
-use crate::stub::{read_line, read_record};
 use mr_base::List;
-use mr_lines::Tail;
+use mr_lines::{read_line, read_record, Tail};
 use mr_words::split_part;
 use std::alloc::Global;
 

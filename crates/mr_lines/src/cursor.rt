@@ -1,0 +1,49 @@
+//! Words cut from the front of a line.
+
+ghost use Rattle.std.specs.Prelude.{◌≡◌, ◌≢◌, ◌<◌, ◌≤◌, ℕ, [], ◌∷◌, length, drop, slice_index, MatchOption};
+ghost use Rattle.mr_lines.specs.Bytes.{behind, ends};
+ghost use Rattle.mr_words.specs.Parts.{parts_of};
+
+use memchr::memchr;
+
+/// The index of the first space, or the length where there is none.
+fn word_end(bytes: &[u8]) -> usize
+    ensures bound { result ≤ length bytes.now }
+    ensures clean { (k : ℕ) → k < result → slice_index bytes.now k ≢ 32 }
+    ensures stops { result < length bytes.now → slice_index bytes.now result ≡ 32 }
+{
+    memchr(b' ', bytes).unwrap_or(bytes.len())
+}
+
+/// The bytes from an index on.
+fn from(bytes: &[u8], index: usize) -> &[u8]
+    requires { index ≤ length bytes.now }
+    ensures { result.now ≡ drop index bytes.now }
+{
+    &bytes[index..]
+}
+
+/// The first word, and what is left behind it.
+pub fn first_word(bytes: &[u8]) -> (&[u8], &[u8])
+    ensures { parts_of 32 bytes.now ≡ result.0.now ∷ behind result.1.now }
+{
+    let end = word_end(bytes);
+    (&bytes[..end], from(bytes, end))
+}
+
+/// The next word of what is left, and what is left behind it.
+pub fn next_word(rest: &[u8]) -> Option<(&[u8], &[u8])>
+    ensures { MatchOption result (behind rest.now ≡ []) (λ x. behind rest.now ≡ x.0.now ∷ behind x.1.now) }
+{
+    match rest {
+        [] => None,
+        [_, bytes @ ..] => Some(first_word(bytes)),
+    }
+}
+
+/// Whether no word goes on here.
+pub fn ends(bytes: &[u8]) -> bool
+    ensures { result ≡ ends bytes.now }
+{
+    bytes.len() == 0 || bytes[0] == b' '
+}

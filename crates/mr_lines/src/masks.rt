@@ -1,0 +1,89 @@
+//! Masks, read in one pass.
+
+ghost use Rattle.std.specs.Prelude.{◌≡◌, ◌+◌, ◌^◌, ◌<◌, ◌≤◌, None, Some, MatchOption, ◌∷◌, true, false, length, slice_index};
+ghost use Rattle.mr_lines.specs.Bytes.{behind, ends, begins_comma, Gives};
+ghost use Rattle.mr_lines.specs.Fields.{leaving};
+ghost use Rattle.mr_lines.specs.Reading.{mask};
+ghost use Rattle.mr_lines.specs.Words.{with_vifs};
+ghost use Rattle.mr_words.specs.Parts.{before, parts_behind, parts_of};
+
+use crate::cursor::ends;
+use crate::fields::past_dash;
+use crate::numbers::leading_number;
+use mr_base::Mask;
+
+/// A mask with one vif more, which is above those that it has.
+fn with_vif(mask: u32, vif: u32) -> u32
+    requires vif { vif ≤ 31 }
+    requires above { mask < 2 ^ vif }
+    ensures value { result ≡ mask + 2 ^ vif }
+    ensures below { result < 2 ^ (vif + 1) }
+{
+    mask + (1 << vif)
+}
+
+/// Whether a comma stands here.
+fn is_comma(bytes: &[u8]) -> bool
+    ensures { result ≡ begins_comma bytes.now }
+{
+    bytes.len() != 0 && bytes[0] == b','
+}
+
+/// The bytes behind the first.
+fn past(bytes: &[u8]) -> &[u8]
+    requires { 0 < length bytes.now }
+    ensures { bytes.now ≡ slice_index bytes.now 0 ∷ result.now }
+{
+    &bytes[1..]
+}
+
+/// The mask of the first word, and what is left behind it.
+fn vifs(bytes: &[u8]) -> Option<(u32, &[u8])>
+    ensures { Gives (λ r. r.now) result (leaving (parts_behind 32 bytes.now) (with_vifs 0 0 (parts_of 44 (before 32 bytes.now)))) }
+{
+    let mut mask = 0u32;
+    let mut least = 0u32;
+    let mut left = bytes;
+    'vifs: loop {
+        match leading_number(left, 31) {
+            None => return None,
+            Some((vif, after)) => {
+                if vif < least {
+                    return None;
+                }
+                mask = with_vif(mask, vif);
+                if !is_comma(after) {
+                    if ends(after) {
+                        return Some((mask, after));
+                    }
+                    return None;
+                }
+                least = vif + 1;
+                left = past(after);
+            }
+        }
+    }
+}
+
+/// The mask of the first word, and what is left behind it.
+fn first_mask(bytes: &[u8]) -> Option<(Mask, &[u8])>
+    ensures { Gives (λ r. r.now) result (mask (parts_of 32 bytes.now)) }
+{
+    match past_dash(bytes) {
+        Some(left) => Some((Mask(0), left)),
+        None => {
+            let (mask, left) = vifs(bytes)?;
+            Some((Mask(mask), left))
+        }
+    }
+}
+
+/// A mask.
+pub fn mask_at(rest: &[u8]) -> Option<(Mask, &[u8])>
+    ensures { Gives (λ r. r.now) result (mask (behind rest.now)) }
+{
+    match rest {
+        [] => None,
+        [_, bytes @ ..] => first_mask(bytes),
+    }
+}

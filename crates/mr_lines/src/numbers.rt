@@ -1,0 +1,112 @@
+//! Numbers read in one pass.
+
+ghost use Rattle.std.specs.Prelude.{◌≡◌, ◌<◌, ◌≤◌, ◌==◌, ◌&&◌, nat_le, if◌then◌else◌, Some, None, IfSome, MatchOption, SomeIff, length, fold};
+ghost use Rattle.mr_lines.specs.Bytes.{behind, ends, digits_of, past_digits, begins_number, Gives};
+ghost use Rattle.mr_lines.specs.Fields.{one};
+ghost use Rattle.mr_lines.specs.Reading.{u8, u16, u32};
+ghost use Rattle.mr_words.specs.Numbers.{digit_on, is_digit, number_of};
+ghost use Rattle.mr_words.specs.Parts.{parts_of};
+
+use crate::cursor::ends;
+use mr_words::is_digit;
+
+/// Whether a number may begin here: a digit, and it is no zero before other digits.
+pub fn begins_number(bytes: &[u8]) -> bool
+    ensures { result ≡ begins_number bytes.now }
+{
+    bytes.len() != 0 && is_digit(bytes[0]) && (bytes[0] != b'0' || bytes.len() == 1 || !is_digit(bytes[1]))
+}
+
+/// A number with one more digit, if it is at most `most`.
+fn grown(value: u32, digit: u8, most: u32) -> Option<u32>
+    ensures { SomeIff result (digit_on value digit ≤ most) (digit_on value digit) }
+{
+    let next = u64::from(value) * 10 + u64::from(digit.saturating_sub(b'0'));
+    if next <= u64::from(most) {
+        Some(next as u32)
+    } else {
+        None
+    }
+}
+
+/// The number that the digits here spell, if it is at most `most`, and the bytes behind them.
+fn digits(bytes: &[u8], most: u32) -> Option<(u32, &[u8])>
+    ensures { MatchOption result (most < fold digit_on 0 (digits_of bytes.now)) (λ x. (fold digit_on 0 (digits_of bytes.now) ≡ x.0) × (x.0 ≤ most) × (x.1.now ≡ past_digits bytes.now)) }
+{
+    let mut value = 0u32;
+    let mut left = bytes;
+    'digits: while let [b, after @ ..] = left {
+        if !is_digit(*b) {
+            return Some((value, left));
+        }
+        match grown(value, *b, most) {
+            Some(next) => value = next,
+            None => return None,
+        }
+        left = after;
+    }
+    Some((value, left))
+}
+
+/// The number that begins here, if it is at most `most`, and the bytes behind its digits.
+pub fn leading_number(bytes: &[u8], most: u32) -> Option<(u32, &[u8])>
+    ensures number { MatchOption result (number_of most (digits_of bytes.now) ≡ None) (λ x. (number_of most (digits_of bytes.now) ≡ Some x.0) × (x.1.now ≡ past_digits bytes.now)) }
+    ensures within { IfSome result (λ x. x.0 ≤ most) }
+{
+    if !begins_number(bytes) {
+        return None;
+    }
+    let (number, left) = digits(bytes, most)?;
+    Some((number, left))
+}
+
+/// The number that the first word spells, if it is at most `most`, and what is left behind it.
+pub fn first_number(bytes: &[u8], most: u32) -> Option<(u32, &[u8])>
+    ensures number { Gives (λ r. r.now) result (one (number_of most) (parts_of 32 bytes.now)) }
+    ensures within { IfSome result (λ x. x.0 ≤ most) }
+{
+    match leading_number(bytes, most) {
+        None => None,
+        Some((number, left)) => {
+            if ends(left) {
+                Some((number, left))
+            } else {
+                None
+            }
+        }
+    }
+}
+
+/// The number that the next word of what is left spells, if it is at most `most`, and what is left behind it.
+fn number_at(rest: &[u8], most: u32) -> Option<(u32, &[u8])>
+    ensures number { Gives (λ r. r.now) result (one (number_of most) (behind rest.now)) }
+    ensures within { IfSome result (λ x. x.0 ≤ most) }
+{
+    match rest {
+        [] => None,
+        [_, bytes @ ..] => first_number(bytes, most),
+    }
+}
+
+/// A number of 32 bits.
+pub fn u32_at(rest: &[u8]) -> Option<(u32, &[u8])>
+    ensures { Gives (λ r. r.now) result (u32 (behind rest.now)) }
+{
+    number_at(rest, u32::MAX)
+}
+
+/// A number of 16 bits.
+pub fn u16_at(rest: &[u8]) -> Option<(u16, &[u8])>
+    ensures { Gives (λ r. r.now) result (u16 (behind rest.now)) }
+{
+    let (number, left) = number_at(rest, 65_535)?;
+    Some((number as u16, left))
+}
+
+/// A number of 8 bits.
+pub fn u8_at(rest: &[u8]) -> Option<(u8, &[u8])>
+    ensures { Gives (λ r. r.now) result (u8 (behind rest.now)) }
+{
+    let (number, left) = number_at(rest, 255)?;
+    Some((number as u8, left))
+}
