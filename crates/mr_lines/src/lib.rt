@@ -14,9 +14,9 @@ mod reading;
 mod requests;
 mod skip;
 mod tail;
-mod words;
 #[cfg(test)]
 mod tests;
+mod words;
 
 pub use laws::{line_again, line_clean, line_is_one, line_splits, line_takes, spaced_again};
 pub use line::Line;
