@@ -1,6 +1,6 @@
 -- Words and numbers in the bytes of a line.
-use Rattle.std.proofs.Common.{◌≡◌, ◌≢◌, ℕ, zero, suc, ◌+◌, ◌<◌, ◌≤◌, ◌==◌, ◌&&◌, ◌||◌, Bool, true, false, not, nat_le, List, [], ◌∷◌, Option, Some, None, length, get_or, drop, take, slice_index, fold, refl, sym, ap, ◌∙◌, arith, inl, inr, add-one, eq-or-lt_of_le, eqb-true, eq-eqb, ne_eqb, le_refl, leb-true, le-leb, drop-cons, drop_of_length-le, take_all, lt-ltb, codes, bytes_eq}
-use Rattle.std.proofs.lemmas.Bool.{and_parts, and_from, cases_Bool, or_cases, or_parts}
+use Rattle.std.proofs.Common.{◌≡◌, ◌≢◌, ℕ, suc, ◌+◌, ◌<◌, ◌≤◌, ◌==◌, ◌&&◌, ◌||◌, Bool, true, false, nat_le, List, [], ◌∷◌, Option, Some, None, length, get_or, drop, take, slice_index, fold, refl, sym, ap, ◌∙◌, arith, inl, inr, add-one, eq-or-lt_of_le, ne_eqb, leb-true, le-leb, drop-cons, drop_of_length-le, take_all, lt-ltb, codes, bytes_eq}
+use Rattle.std.proofs.lemmas.Bool.{and_from, cases_Bool, or_cases, or_parts}
 use Rattle.std.specs.List.{list_all}
 use Rattle.std.specs.Prelude.{if◌then◌else◌, nat_lt}
 use Rattle.mr_words.proofs.Cuts.{part_first, part_alone}
@@ -18,14 +18,14 @@ use Rattle.mr_lines.specs.Forms.{Word}
 pub word_first : (bs : List ℕ) (i : ℕ) → i ≤ length bs → ((k : ℕ) → k < i → slice_index bs k ≢ 32) → (i < length bs → slice_index bs i ≡ 32) →
     parts_of 32 bs ≡ take i bs ∷ behind (drop i bs)
 word_first bs i within clean stops = elim (eq-or-lt_of_le within) [
-    | inl same ↦
-        let over : length bs ≤ i = omega arith in
-        rw (drop_of_length-le bs over, take_all i bs over) (part_alone 32 bs i over clean)
-    | inr below ↦
-        let cut : drop i bs ≡ get_or bs i 0 ∷ drop (suc i) bs = drop-cons bs i 0 below in
-        let next : i + 1 ≡ suc i = add-one i in
-        rw cut (part_first 32 bs i below clean stops ∙ ap (λ n. take i bs ∷ parts_of 32 (drop n bs)) next)
-  ]
+  | inl same ↦
+      let over : length bs ≤ i = omega arith in
+      rw (drop_of_length-le bs over, take_all i bs over) (part_alone 32 bs i over clean)
+  | inr below ↦
+      let cut : drop i bs ≡ get_or bs i 0 ∷ drop (suc i) bs = drop-cons bs i 0 below in
+      let next : i + 1 ≡ suc i = add-one i in
+      rw cut (part_first 32 bs i below clean stops ∙ ap (λ n. take i bs ∷ parts_of 32 (drop n bs)) next)
+]
 
 digits_all : (bs : List ℕ) → list_all is_digit (digits_of bs) ≡ true
 digits_all [] = refl
@@ -39,33 +39,33 @@ digits_all (b ∷ bs) = by_case (is_digit b) refl (digits_all bs)
 begins_leads : (bs : List ℕ) → begins_number bs ≡ leads_well (digits_of bs)
 begins_leads [] = refl
 begins_leads (b ∷ []) = elim (cases_Bool (is_digit b)) [
-    | inl digit ↦ elim (cases_Bool (b == 48)) [
-        | inl nil ↦ rw (digit, nil) refl
-        | inr some ↦ rw (digit, some) refl
-      ]
-    | inr other ↦ rw other refl
+  | inl digit ↦ elim (cases_Bool (b == 48)) [
+    | inl nil ↦ rw (digit, nil) refl
+    | inr some ↦ rw (digit, some) refl
   ]
+  | inr other ↦ rw other refl
+]
 begins_leads (b ∷ c ∷ bs) = elim (cases_Bool (is_digit b)) [
-    | inr other ↦ let some_bytes : (length (b ∷ c ∷ bs) == 0) ≡ false = ne_eqb (length (b ∷ c ∷ bs)) 0 (λ e. omega (arith, e)) in rw (other, some_bytes) refl
-    | inl digit ↦ elim (cases_Bool (is_digit c)) [
-        | inr alone ↦
-            let some_bytes : (length (b ∷ c ∷ bs) == 0) ≡ false = ne_eqb (length (b ∷ c ∷ bs)) 0 (λ e. omega (arith, e)) in
-            let whole : (length (b ∷ c ∷ bs) == 1) ≡ false = ne_eqb (length (b ∷ c ∷ bs)) 1 (λ e. omega (arith, e)) in
-            elim (cases_Bool (b == 48)) [
-            | inl nil ↦ rw (digit, alone, nil, some_bytes, whole) refl
-            | inr some ↦ rw (digit, alone, some, some_bytes) refl
-          ]
-        | inl more ↦
-            let some_bytes : (length (b ∷ c ∷ bs) == 0) ≡ false = ne_eqb (length (b ∷ c ∷ bs)) 0 (λ e. omega (arith, e)) in
-            let long : (length (b ∷ c ∷ digits_of bs) == 1) ≡ false = ne_eqb (length (b ∷ c ∷ digits_of bs)) 1 (λ e. omega (arith, e)) in
-            let whole : (length (b ∷ c ∷ bs) == 1) ≡ false = ne_eqb (length (b ∷ c ∷ bs)) 1 (λ e. omega (arith, e)) in
-            let two : nat_lt 1 (length (b ∷ c ∷ digits_of bs)) ≡ true = lt-ltb 1 (length (b ∷ c ∷ digits_of bs)) (omega arith) in
-            elim (cases_Bool (b == 48)) [
-              | inl nil ↦ rw (digit, more, nil, long, whole, two, some_bytes) refl
-              | inr some ↦ rw (digit, more, some, long, two, some_bytes) refl
-            ]
-      ]
+  | inr other ↦ let some_bytes : (length (b ∷ c ∷ bs) == 0) ≡ false = ne_eqb (length (b ∷ c ∷ bs)) 0 (λ e. omega (arith, e)) in rw (other, some_bytes) refl
+  | inl digit ↦ elim (cases_Bool (is_digit c)) [
+    | inr alone ↦
+        let some_bytes : (length (b ∷ c ∷ bs) == 0) ≡ false = ne_eqb (length (b ∷ c ∷ bs)) 0 (λ e. omega (arith, e)) in
+        let whole : (length (b ∷ c ∷ bs) == 1) ≡ false = ne_eqb (length (b ∷ c ∷ bs)) 1 (λ e. omega (arith, e)) in
+        elim (cases_Bool (b == 48)) [
+          | inl nil ↦ rw (digit, alone, nil, some_bytes, whole) refl
+          | inr some ↦ rw (digit, alone, some, some_bytes) refl
+        ]
+    | inl more ↦
+        let some_bytes : (length (b ∷ c ∷ bs) == 0) ≡ false = ne_eqb (length (b ∷ c ∷ bs)) 0 (λ e. omega (arith, e)) in
+        let long : (length (b ∷ c ∷ digits_of bs) == 1) ≡ false = ne_eqb (length (b ∷ c ∷ digits_of bs)) 1 (λ e. omega (arith, e)) in
+        let whole : (length (b ∷ c ∷ bs) == 1) ≡ false = ne_eqb (length (b ∷ c ∷ bs)) 1 (λ e. omega (arith, e)) in
+        let two : nat_lt 1 (length (b ∷ c ∷ digits_of bs)) ≡ true = lt-ltb 1 (length (b ∷ c ∷ digits_of bs)) (omega arith) in
+        elim (cases_Bool (b == 48)) [
+          | inl nil ↦ rw (digit, more, nil, long, whole, two, some_bytes) refl
+          | inr some ↦ rw (digit, more, some, long, two, some_bytes) refl
+        ]
   ]
+]
 
 -- no number begins
 pub no_number : (most : ℕ) (bs : List ℕ) → begins_number bs ≡ false → number_of most (digits_of bs) ≡ None
@@ -77,9 +77,10 @@ too_much most bs over = by_case (is_numeral (digits_of bs))
   where
     test : nat_le (fold digit_on 0 (digits_of bs)) most ≡ false
     test = elim (cases_Bool (nat_le (fold digit_on 0 (digits_of bs)) most)) [
-        | inl under ↦ let low : fold digit_on 0 (digits_of bs) ≤ most = leb-true (fold digit_on 0 (digits_of bs)) most under in absurd (omega arith)
-        | inr other ↦ other
-      ]
+      | inl under ↦ let low : fold digit_on 0 (digits_of bs) ≤ most = leb-true (fold digit_on 0 (digits_of bs)) most under in absurd (omega arith)
+      | inr other ↦ other
+    ]
+
     by_case : (t : Bool) → (if t && nat_le (fold digit_on 0 (digits_of bs)) most then Some (fold digit_on 0 (digits_of bs)) else None) ≡ None
     by_case true = rw test refl
     by_case false = refl
@@ -124,7 +125,7 @@ word_ends sep other (b ∷ bs) end = by_case (is_digit b) refl end (word_ends se
         rw (digit, apart) (ap (λ w. b ∷ w) is.0, is.1)
     by_case false no_digit end inner =
         let here : ends_at sep (b ∷ bs) ≡ true = rw no_digit at end in
-        let same : (b == sep) ≡ true = elim (or_cases (length (b ∷ bs) == 0) (b == sep) here) [ | inl empty ↦ absurd (cc (empty, some_length b bs)) | inr is ↦ is ] in
+        let same : (b == sep) ≡ true = elim (or_cases (length (b ∷ bs) == 0) (b == sep) here) [ inl empty ↦ absurd (cc (empty, some_length b bs)) | inr is ↦ is ] in
         rw (no_digit, same) (refl, refl)
 
 -- Where a word goes on behind its digits, it is no number.
@@ -166,9 +167,9 @@ number_goes_on most bs end = ap (leaving (parts_behind 32 bs)) (no_digits most (
 
 pub number_none : (most : ℕ) (bs : List ℕ) → number_of most (digits_of bs) ≡ None → one (number_of most) (parts_of 32 bs) ≡ None
 number_none most bs none = elim (cases_Bool (ends (past_digits bs))) [
-    | inl end ↦ number_ends most bs end ∙ ap (leaving (behind (past_digits bs))) none
-    | inr on ↦ number_goes_on most bs on
-  ]
+  | inl end ↦ number_ends most bs end ∙ ap (leaving (behind (past_digits bs))) none
+  | inr on ↦ number_goes_on most bs on
+]
 
 pub number_read : (most n : ℕ) (bs left : List ℕ) → number_of most (digits_of bs) ≡ Some n → left ≡ past_digits bs → ends left ≡ true →
     one (number_of most) (parts_of 32 bs) ≡ Some (n, behind left)
@@ -181,7 +182,7 @@ number_stuck most bs left is end = number_goes_on most bs (ap ends (sym is) ∙ 
 pub dash_ends : (left : List ℕ) → ends left ≡ true → parts_of 32 (45 ∷ left) ≡ codes "-" ∷ behind left
 dash_ends [] end = refl
 dash_ends (b ∷ bs) end =
-    let same : (b == 32) ≡ true = elim (or_cases (length (b ∷ bs) == 0) (b == 32) end) [ | inl empty ↦ absurd (cc (empty, some_length b bs)) | inr is ↦ is ] in
+    let same : (b == 32) ≡ true = elim (or_cases (length (b ∷ bs) == 0) (b == 32) end) [ inl empty ↦ absurd (cc (empty, some_length b bs)) | inr is ↦ is ] in
     rw same refl
 
 pub dash_goes_on : (left : List ℕ) → ends left ≡ false → bytes_eq (before 32 (45 ∷ left)) (codes "-") ≡ false
@@ -192,9 +193,9 @@ dash_goes_on (b ∷ bs) end =
 
 pub no_dash : (b : ℕ) (bs : List ℕ) → (b ≡ 45 → ⊥) → bytes_eq (before 32 (b ∷ bs)) (codes "-") ≡ false
 no_dash b bs other = elim (cases_Bool (b == 32)) [
-    | inl space ↦ rw space refl
-    | inr word ↦ let apart : (b == 45) ≡ false = ne_eqb b 45 other in rw (word, apart) refl
-  ]
+  | inl space ↦ rw space refl
+  | inr word ↦ let apart : (b == 45) ≡ false = ne_eqb b 45 other in rw (word, apart) refl
+]
 
 -- what a word that is read left
 pub left_is : {A : Type 0} (ws vs : List Word) (o : Option A) (x : A) → leaving ws o ≡ Some (x, vs) → (o ≡ Some x) × (ws ≡ vs)

@@ -1,11 +1,10 @@
 -- Laws of fields: what is read is spelled so, what fits is read again, and its words have neither space nor line feed.
-use Rattle.std.proofs.Common.{◌≡◌, ℕ, Bool, true, false, List, [], ◌∷◌, ◌++◌, Option, Some, None, option_and_then, refl, sym, ap, ◌∙◌, ◌&&◌, codes, bytes_eq, append_assoc, subst}
+use Rattle.std.proofs.Common.{◌≡◌, true, List, [], ◌∷◌, ◌++◌, Option, Some, None, option_and_then, refl, sym, ap, ◌∙◌, append_assoc, subst}
 use Rattle.std.proofs.lemmas.Bool.{and_from}
 use Rattle.std.proofs.lemmas.Option.{some_pair_parts}
 use Rattle.std.proofs.lemmas.List.Folds.{list_all-append}
 use Rattle.std.specs.List.{list_all}
-use Rattle.std.specs.Prelude.{if◌then◌else◌}
-use Rattle.mr_lines.specs.Fields.{Read, one, leaving, both, further, joined_with, mapped, renamed, keyword, closing, closed_by, by_word, nothing_left, whole, done}
+use Rattle.mr_lines.specs.Fields.{Read, one, leaving, both, further, joined_with, mapped, renamed, by_word, done}
 use Rattle.mr_lines.specs.Forms.{Word}
 use Rattle.mr_lines.specs.Laws.{is_free, are_free}
 
@@ -110,9 +109,10 @@ pub keyed : {A X : Type 0} (front : List Word) (k : Word) (to : A → X) (f : Re
 keyed front k to f fw F xw Fits words fits field w ws x rest same e =
     let first = bound (renamed to) (f ws) (x, rest) e in
     let parts = some_pair_parts (to first.0.0) x first.0.1 rest first.2 in
-    let taken = field ws first.0.0 rest (first.1 ∙ ap (λ r. Some (first.0.0, r)) parts.1) in
-    ((λ i. front ++ same i ∷ taken.0 i) ∙ sym (append_assoc front (k ∷ fw first.0.0) rest) ∙ ap (λ v. v ++ rest) (sym (words first.0.0) ∙ ap xw parts.0),
-    subst Fits parts.0 (fits first.0.0 taken.1))
+    let taken = field ws first.0.0 rest (first.1 ∙ ap (λ r. Some (first.0.0, r)) parts.1) in (
+      (λ i. front ++ same i ∷ taken.0 i) ∙ sym (append_assoc front (k ∷ fw first.0.0) rest) ∙ ap (λ v. v ++ rest) (sym (words first.0.0) ∙ ap xw parts.0),
+      subst Fits parts.0 (fits first.0.0 taken.1),
+    )
 
 -- one variant of several that has no fields
 pub alone : {X : Type 0} (front : List Word) (k : Word) (y : X) (xw : X → List Word) (Fits : X → Type 0) → xw y ≡ front ++ k ∷ [] → Fits y →

@@ -1,47 +1,27 @@
 -- Laws of the fields of lines, and of requests, replies, outcomes, messages and fates.
-use Rattle.std.proofs.Common.{◌≡◌, ℕ, zero, suc, ◌+◌, ◌<◌, ◌≤◌, ◌==◌, ◌&&◌, Bool, true, false, List, [], ◌∷◌, ◌++◌, Option, Some, None, option_and_then, length, slice_index, decimal, codes, bytes_eq, refl, sym, ap, ◌∙◌, arith, lit<, lit≤, inl, inr, eqb-true, subst, append_assoc}
-use Rattle.std.proofs.lemmas.Bool.{and_from, and_parts, cases_Bool}
-use Rattle.std.proofs.lemmas.Option.{some_pair_parts}
-use Rattle.std.specs.List.{list_all}
-use Rattle.std.specs.Prelude.{if◌then◌else◌}
-use Rattle.mr_base.specs.declared.numbers.Addr.{Addr}
-use Rattle.mr_base.specs.declared.numbers.DaemonNo.{DaemonNo}
-use Rattle.mr_base.specs.declared.numbers.LaneNo.{LaneNo}
+use Rattle.std.proofs.Common.{◌≡◌, ℕ, true, false, List, [], ◌∷◌, ◌++◌, Option, Some, None, option_and_then, decimal, codes, bytes_eq, refl, ap, lit<}
+use Rattle.std.proofs.lemmas.Bool.{and_from}
 use Rattle.mr_base.specs.declared.numbers.Mask.{Mask}
-use Rattle.mr_lines.specs.declared.skip.Skip.{Skip}
-use Rattle.mr_lines.specs.declared.tail.RouteLine.{RouteLine}
-use Rattle.mr_lines.specs.declared.tail.VifLine.{VifLine}
 use Rattle.mr_model.specs.declared.ending.Fate.{Fate}
 use Rattle.mr_model.specs.declared.ending.Fate.TheVariants as fate
-use Rattle.mr_model.specs.declared.ending.FateLine.{FateLine}
 use Rattle.mr_model.specs.declared.message.Kind.{Kind}
 use Rattle.mr_model.specs.declared.message.Kind.TheVariants as kind
 use Rattle.mr_model.specs.declared.message.MessageId.{MessageId}
 use Rattle.mr_model.specs.declared.outcome.Outcome.{Outcome}
 use Rattle.mr_model.specs.declared.outcome.Outcome.TheVariants as outcome
-use Rattle.mr_model.specs.declared.outcome.Report.{Report}
 use Rattle.mr_model.specs.declared.reply.Reply.{Reply}
 use Rattle.mr_model.specs.declared.reply.Reply.TheVariants as reply
-use Rattle.mr_model.specs.declared.reply.RouteTotals.{RouteTotals}
-use Rattle.mr_model.specs.declared.reply.VifTotals.{VifTotals}
-use Rattle.mr_model.specs.declared.request.MfcCtl.{MfcCtl}
-use Rattle.mr_model.specs.declared.request.MfcKey.{MfcKey}
-use Rattle.mr_model.specs.declared.request.Request.{Request}
-use Rattle.mr_model.specs.declared.request.Request.TheVariants as request
-use Rattle.mr_model.specs.declared.request.VifCtl.{VifCtl}
-use Rattle.mr_words.specs.Numbers.{number_of, address_of}
-use Rattle.mr_lines.specs.Fields.{Read, one, leaving, both, further, mapped, renamed, closing, closed_by, by_word, keyword, done}
-use Rattle.mr_lines.specs.Fit.{Fits8, Fits16, Fits32, Fits64, AddrFits, LaneFits, DaemonFits, MaskFits, VifFits, TtlsFit, VifCtlFits, MfcCtlFits, MfcKeyFits, RequestFits, RouteTotalsFit, VifTotalsFit, ReplyFits, OutcomeFits, MessageFits, FateFits, SkipFits, RouteLineFits, VifLineFits, FateLineFits}
-use Rattle.mr_lines.specs.Forms.{Word, address, vif_or_none as vif_text, mask as mask_text, local_word, thresholds, route_words, key_words}
-use Rattle.mr_lines.specs.Laws.{is_free, are_free}
-use Rattle.mr_lines.specs.Lines.{request_words, route_total_words, vif_total_words, reply_words, report_word, cause_word, told_word, outcome_words, kind_word, message_words, fate_words}
-use Rattle.mr_lines.specs.Reading.{u8, u16, u32, u64, addr, vif_or_none, mask, to_lane, lane, to_daemon, daemon, to_route_totals, route_totals, to_vif_totals, vif_totals, to_vif_ctl, with_local, vif_ctl, to_key, key, ttls, to_route_ctl, route_ctl, to_count, request_at, asked, good, reply_at, replied, to_forward, to_register, to_wrong, outcome_at, happened, to_skip, skip, to_route, route, to_vif, vif, fate_at, to_fate, fate_line, to_message, message_of, message_at}
-use Rattle.mr_lines.specs.Words.{number8, number16, number32, number64, to_addr, addr_of, vif_or_none_of, mask_of, name_of, at_number, local_of, ttls_from, errno_of, report_of, told_of, cause_of, kind_of}
-use Rattle.mr_lines.proofs.FieldLaws.{IsWord, IsField, bound, free_append, one_field, both_field, mapped_field, Takes, Again, both_takes, both_again, mapped_takes, mapped_again, word_takes, keyed, alone}
-use Rattle.mr_lines.proofs.ItemLaws.{ttls_take, ttls_long, ttls_small, ttls_again, ttls_clean}
+use Rattle.mr_lines.specs.Fields.{one, both, renamed, by_word}
+use Rattle.mr_lines.specs.Fit.{Fits8, Fits16, Fits32, Fits64, AddrFits, LaneFits, DaemonFits, MaskFits, VifFits, MfcKeyFits, RouteTotalsFit, VifTotalsFit, ReplyFits, OutcomeFits, MessageFits, FateFits, SkipFits, RouteLineFits, VifLineFits, FateLineFits}
+use Rattle.mr_lines.specs.Forms.{Word, address, vif_or_none as vif_text, mask as mask_text, key_words}
+use Rattle.mr_lines.specs.Laws.{are_free}
+use Rattle.mr_lines.specs.Lines.{route_total_words, vif_total_words, reply_words, report_word, cause_word, told_word, outcome_words, kind_word, message_words, fate_words}
+use Rattle.mr_lines.specs.Reading.{u8, u16, u32, u64, addr, vif_or_none, mask, to_lane, lane, to_daemon, daemon, to_route_totals, route_totals, to_vif_totals, vif_totals, to_key, key, good, reply_at, replied, to_forward, to_register, to_wrong, outcome_at, happened, to_skip, skip, to_route, route, to_vif, vif, fate_at, to_fate, fate_line, to_message, message_of, message_at}
+use Rattle.mr_lines.specs.Words.{number8, number16, number32, number64, addr_of, vif_or_none_of, mask_of, name_of, errno_of, report_of, told_of, cause_of, kind_of}
+use Rattle.mr_lines.proofs.FieldLaws.{IsField, one_field, both_field, mapped_field, Takes, Again, word_takes, keyed, alone}
 use Rattle.mr_lines.proofs.MaskLaws.{mask_is}
-use Rattle.mr_lines.proofs.NumberLaws.{number_word, number_takes, number_again, no_keyword}
-use Rattle.mr_lines.proofs.WordLaws.{pick, vif_word, report_is, told_is, cause_is, kind_is, errno_word, errno_is, NameFits, name_is, address_takes, address_again, address_clean, addr_is, Any}
+use Rattle.mr_lines.proofs.NumberLaws.{number_word}
+use Rattle.mr_lines.proofs.WordLaws.{pick, vif_word, report_is, told_is, cause_is, kind_is, errno_word, errno_is, NameFits, name_is, addr_is, Any}
 
 pub u8_field : IsField u8 (λ n. decimal n ∷ []) Fits8
 u8_field = one_field number8 decimal Fits8 (number_word 255 (lit< tt))

@@ -1,5 +1,5 @@
 -- Laws of the items `V:T` of a request.
-use Rattle.std.proofs.Common.{◌≡◌, ℕ, zero, suc, ◌+◌, ◌<◌, ◌≤◌, ◌==◌, ◌&&◌, Bool, true, false, List, [], ◌∷◌, ◌++◌, Option, Some, None, length, drop, slice_index, decimal, codes, refl, sym, ap, ◌∙◌, arith, lit<, inl, inr, eqb-true, eq-eqb, ne_eqb, append_assoc, subst, append-nil, take, set, take_all, take-suc-set, add-one, ◌-◌}
+use Rattle.std.proofs.Common.{◌≡◌, ℕ, zero, suc, ◌+◌, ◌<◌, ◌≤◌, ◌==◌, Bool, true, false, List, [], ◌∷◌, ◌++◌, Option, Some, None, length, drop, slice_index, decimal, codes, refl, sym, ap, ◌∙◌, arith, lit<, inl, inr, eqb-true, eq-eqb, ne_eqb, append_assoc, subst, append-nil, take, set, take_all, take-suc-set, add-one, ◌-◌}
 use Rattle.std.proofs.lemmas.Bool.{and_from, cases_Bool}
 use Rattle.std.specs.List.{list_all, join_with_byte}
 use Rattle.std.specs.Prelude.{if◌then◌else◌}
@@ -51,13 +51,13 @@ first_takes i (w ∷ ws) some = by_case (item_of w) refl some
     by_case : (o : Option (ℕ × ℕ)) → item_of w ≡ o → (asked_for i o == 0) ≡ false → (w ∷ ws ≡ item i (first_for i (w ∷ ws)) ∷ ws) × (first_for i (w ∷ ws) ≤ 255)
     by_case None reads some = absurd (cc)
     by_case (Some p) reads some = elim (cases_Bool (p.0 == i)) [
-        | inr other ↦ let none : (asked_for i (Some p) == 0) ≡ true = rw other refl in absurd (cc)
-        | inl same ↦
-            let is : p.0 ≡ i = eqb-true p.0 i same in
-            let taken = item_takes w p reads in
-            let ttl : first_for i (w ∷ ws) ≡ p.1 = ap (asked_for i) reads ∙ rw same refl in
-            rw ttl (ap (λ v. v ∷ ws) (taken.0 ∙ ap (λ v. item v p.1) is), taken.1)
-      ]
+      | inr other ↦ let none : (asked_for i (Some p) == 0) ≡ true = rw other refl in absurd (cc)
+      | inl same ↦
+          let is : p.0 ≡ i = eqb-true p.0 i same in
+          let taken = item_takes w p reads in
+          let ttl : first_for i (w ∷ ws) ≡ p.1 = ap (asked_for i) reads ∙ rw same refl in
+          rw ttl (ap (λ v. v ∷ ws) (taken.0 ∙ ap (λ v. item v p.1) is), taken.1)
+    ]
 
 -- Thresholds that are read are spelled so.
 pub ttls_take : (k i : ℕ) (ws : List Word) → ws ≡ thresholds i (ttls_from k i ws).0 ++ (ttls_from k i ws).1
@@ -79,28 +79,28 @@ pub ttls_small : (k i : ℕ) (ws : List Word) (j : ℕ) → slice_index (ttls_fr
 unfolding ttls_from
 ttls_small zero i ws j = omega arith
 ttls_small (suc k) i ws zero = elim (cases_Bool (first_for i ws == 0)) [
-    | inl none ↦ omega (arith, eqb-true (first_for i ws) 0 none)
-    | inr some ↦ (first_takes i ws some).1
-  ]
+  | inl none ↦ omega (arith, eqb-true (first_for i ws) 0 none)
+  | inr some ↦ (first_takes i ws some).1
+]
 ttls_small (suc k) i ws (suc j) = ttls_small k (i + 1) (if first_for i ws == 0 then ws else drop 1 ws) j
 
 -- No item in front asks for a lower vif.
 none_first : (ts : List ℕ) (i j : ℕ) (rest : List Word) → j < i → i + length ts ≤ 32 → ((n : ℕ) → slice_index ts n ≤ 255) → first_for j (thresholds i ts ++ codes "=" ∷ rest) ≡ 0
 none_first [] i j rest low fits small = refl
 none_first (t ∷ ts) i j rest low fits small = elim (cases_Bool (t == 0)) [
-    | inl none ↦ rw none (none_first ts (i + 1) j rest (omega arith) (omega arith) (λ n. small (suc n)))
-    | inr some ↦
-        let other : (i == j) ≡ false = ne_eqb i j (λ same. omega (arith, same)) in
-        rw some (ap (asked_for j) (item_again i t (omega arith) (small 0)) ∙ rw other refl)
-  ]
+  | inl none ↦ rw none (none_first ts (i + 1) j rest (omega arith) (omega arith) (λ n. small (suc n)))
+  | inr some ↦
+      let other : (i == j) ≡ false = ne_eqb i j (λ same. omega (arith, same)) in
+      rw some (ap (asked_for j) (item_again i t (omega arith) (small 0)) ∙ rw other refl)
+]
 
 first_again : (t : ℕ) (ts : List ℕ) (i : ℕ) (rest : List Word) → i + length (t ∷ ts) ≤ 32 → ((n : ℕ) → slice_index (t ∷ ts) n ≤ 255) → first_for i (thresholds i (t ∷ ts) ++ codes "=" ∷ rest) ≡ t
 first_again t ts i rest fits small = elim (cases_Bool (t == 0)) [
-    | inl none ↦ rw none (none_first ts (i + 1) i rest (omega arith) (omega arith) (λ n. small (suc n)) ∙ sym (eqb-true t 0 none))
-    | inr some ↦
-        let same : (i == i) ≡ true = eq-eqb i i refl in
-        rw some (ap (asked_for i) (item_again i t (omega arith) (small 0)) ∙ rw same refl)
-  ]
+  | inl none ↦ rw none (none_first ts (i + 1) i rest (omega arith) (omega arith) (λ n. small (suc n)) ∙ sym (eqb-true t 0 none))
+  | inr some ↦
+      let same : (i == i) ≡ true = eq-eqb i i refl in
+      rw some (ap (asked_for i) (item_again i t (omega arith) (small 0)) ∙ rw same refl)
+]
 
 -- Thresholds are read from their items, as far as the word `=`.
 pub ttls_again : (ts : List ℕ) (i : ℕ) (rest : List Word) → i + length ts ≤ 32 → ((n : ℕ) → slice_index ts n ≤ 255) →
@@ -132,9 +132,10 @@ ttls_step i t ts whole ws more rest within long first left done others =
     let less : 32 - i ≡ suc (32 - (i + 1)) = omega arith in
     let cut : ttls_from (32 - i) i ws ≡ onto t (ttls_from (32 - (i + 1)) (i + 1) more) = ap (λ k. ttls_from k i ws) less ∙ (λ j. onto (sym first j) (ttls_from (32 - (i + 1)) (i + 1) (sym left j))) in
     let next : i + 1 ≡ suc i = add-one i in
-    let front : take (i + 1) (set ts i t) ≡ take i ts ++ t ∷ [] = ap (λ n. take n (set ts i t)) next ∙ take-suc-set ts i t (omega (arith, long)) in
-    (ap (λ l. l ++ (ttls_from (32 - (i + 1)) (i + 1) more).0) front ∙ append_assoc (take i ts) (t ∷ []) (ttls_from (32 - (i + 1)) (i + 1) more).0 ∙ ap (λ x. take i ts ++ x.0) (sym cut) ∙ done,
-     ap (λ x. x.1) (sym cut) ∙ others)
+    let front : take (i + 1) (set ts i t) ≡ take i ts ++ t ∷ [] = ap (λ n. take n (set ts i t)) next ∙ take-suc-set ts i t (omega (arith, long)) in (
+      ap (λ l. l ++ (ttls_from (32 - (i + 1)) (i + 1) more).0) front ∙ append_assoc (take i ts) (t ∷ []) (ttls_from (32 - (i + 1)) (i + 1) more).0 ∙ ap (λ x. take i ts ++ x.0) (sym cut) ∙ done,
+      ap (λ x. x.1) (sym cut) ∙ others,
+    )
 
 -- All thresholds are read.
 pub ttls_done : (i : ℕ) (ts whole : List ℕ) (ws rest : List Word) → 32 ≤ i → length ts ≡ 32 → take i ts ++ (ttls_from (32 - i) i ws).0 ≡ whole → (ttls_from (32 - i) i ws).1 ≡ rest → (ts ≡ whole) × (ws ≡ rest)

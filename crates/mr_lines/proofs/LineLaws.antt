@@ -1,64 +1,36 @@
 -- Laws of lines.
-use Rattle.std.proofs.Common.{◌≡◌, ℕ, zero, suc, ◌+◌, ◌<◌, ◌≤◌, ◌==◌, ◌&&◌, Bool, true, false, List, [], ◌∷◌, ◌++◌, Option, Some, None, option_and_then, length, slice_index, decimal, codes, bytes_eq, refl, sym, ap, ◌∙◌, arith, lit<, lit≤, inl, inr, eqb-true, subst, append_assoc, append-nil, ◌^◌}
-use Rattle.std.proofs.lemmas.Bool.{and_from, and_parts, cases_Bool}
+use Rattle.std.proofs.Common.{◌≡◌, ℕ, ◌<◌, Bool, true, false, List, [], ◌∷◌, ◌++◌, Option, Some, None, option_and_then, length, decimal, codes, refl, sym, ap, ◌∙◌, arith, lit<, subst, append_assoc, append-nil, ◌^◌}
+use Rattle.std.proofs.lemmas.Bool.{and_from}
 use Rattle.std.proofs.lemmas.Option.{some_pair_parts}
 use Rattle.std.specs.List.{list_all}
 use Rattle.std.specs.Prelude.{if◌then◌else◌}
-use Rattle.mr_base.specs.declared.numbers.Addr.{Addr}
 use Rattle.mr_base.specs.declared.numbers.DaemonNo.{DaemonNo}
-use Rattle.mr_base.specs.declared.numbers.LaneNo.{LaneNo}
-use Rattle.mr_base.specs.declared.numbers.Mask.{Mask}
-use Rattle.mr_lines.specs.declared.skip.Skip.{Skip}
-use Rattle.mr_lines.specs.declared.tail.RouteLine.{RouteLine}
-use Rattle.mr_lines.specs.declared.tail.VifLine.{VifLine}
-use Rattle.mr_model.specs.declared.ending.Fate.{Fate}
-use Rattle.mr_model.specs.declared.ending.Fate.TheVariants as fate
-use Rattle.mr_model.specs.declared.ending.FateLine.{FateLine}
-use Rattle.mr_model.specs.declared.message.Kind.{Kind}
-use Rattle.mr_model.specs.declared.message.Kind.TheVariants as kind
-use Rattle.mr_model.specs.declared.message.MessageId.{MessageId}
 use Rattle.mr_model.specs.declared.outcome.Outcome.{Outcome}
 use Rattle.mr_model.specs.declared.outcome.Outcome.TheVariants as outcome
-use Rattle.mr_model.specs.declared.outcome.Report.{Report}
 use Rattle.mr_model.specs.declared.reply.Reply.{Reply}
-use Rattle.mr_model.specs.declared.reply.Reply.TheVariants as reply
-use Rattle.mr_model.specs.declared.reply.RouteTotals.{RouteTotals}
-use Rattle.mr_model.specs.declared.reply.VifTotals.{VifTotals}
-use Rattle.mr_model.specs.declared.request.MfcCtl.{MfcCtl}
-use Rattle.mr_model.specs.declared.request.MfcKey.{MfcKey}
 use Rattle.mr_model.specs.declared.request.Request.{Request}
-use Rattle.mr_model.specs.declared.request.Request.TheVariants as request
-use Rattle.mr_model.specs.declared.request.VifCtl.{VifCtl}
-use Rattle.mr_words.specs.Numbers.{number_of, address_of}
-use Rattle.mr_lines.specs.Fields.{Read, one, leaving, both, further, mapped, renamed, closing, closed_by, by_word, keyword, done}
-use Rattle.mr_lines.specs.Fit.{Fits8, Fits16, Fits32, Fits64, AddrFits, LaneFits, DaemonFits, MaskFits, VifFits, TtlsFit, VifCtlFits, MfcCtlFits, MfcKeyFits, RequestFits, RouteTotalsFit, VifTotalsFit, ReplyFits, OutcomeFits, MessageFits, FateFits, SkipFits, RouteLineFits, VifLineFits, FateLineFits}
-use Rattle.mr_lines.specs.Forms.{Word, address, vif_or_none as vif_text, mask as mask_text, local_word, thresholds, route_words, key_words}
+use Rattle.mr_lines.specs.Fields.{both, mapped, renamed, by_word, keyword}
+use Rattle.mr_lines.specs.Fit.{Fits32, Fits64, LaneFits, DaemonFits, RequestFits, ReplyFits, OutcomeFits, MessageFits}
+use Rattle.mr_lines.specs.Forms.{Word}
 use Rattle.mr_lines.specs.Laws.{is_free, are_free}
-use Rattle.mr_lines.specs.Lines.{request_words, route_total_words, vif_total_words, reply_words, report_word, cause_word, told_word, outcome_words, kind_word, message_words, fate_words}
-use Rattle.mr_lines.specs.Reading.{u8, u16, u32, u64, addr, vif_or_none, mask, to_lane, lane, to_daemon, daemon, to_route_totals, route_totals, to_vif_totals, vif_totals, to_vif_ctl, with_local, vif_ctl, to_key, key, ttls, to_route_ctl, route_ctl, to_count, request_at, asked, good, reply_at, replied, to_forward, to_register, to_wrong, outcome_at, happened, to_skip, skip, to_route, route, to_vif, vif, fate_at, to_fate, fate_line, to_message, message_of, message_at}
-use Rattle.mr_lines.specs.Words.{number8, number16, number32, number64, to_addr, addr_of, vif_or_none_of, mask_of, name_of, at_number, local_of, ttls_from, errno_of, report_of, told_of, cause_of, kind_of}
-use Rattle.mr_lines.proofs.FieldLaws.{IsWord, IsField, bound, free_append, one_field, both_field, mapped_field, Takes, Again, both_takes, both_again, mapped_takes, mapped_again, word_takes, keyed, alone}
-use Rattle.mr_lines.proofs.ItemLaws.{ttls_take, ttls_long, ttls_small, ttls_again, ttls_clean}
-use Rattle.mr_lines.proofs.MaskLaws.{mask_is}
+use Rattle.mr_lines.specs.Lines.{request_words, reply_words, outcome_words, message_words}
+use Rattle.mr_lines.specs.Reading.{u32, u64, vif_or_none, mask, lane, daemon, asked, replied, happened, vif, message_at}
+use Rattle.mr_lines.specs.Words.{number64}
+use Rattle.mr_lines.proofs.FieldLaws.{IsField, bound, free_append, both_field, Takes, Again, both_takes, both_again, word_takes, keyed, alone}
 use Rattle.mr_lines.proofs.NumberLaws.{number_word, number_takes, number_again, no_keyword}
-use Rattle.mr_lines.proofs.WordLaws.{pick, vif_word, report_is, told_is, cause_is, kind_is, errno_word, errno_is, NameFits, name_is, address_takes, address_again, address_clean, addr_is, Any}
-
-use Rattle.mr_lines.proofs.FormLaws.{u8_field, u16_field, u32_field, key_field, count_field}
-
+use Rattle.mr_lines.proofs.WordLaws.{pick}
+use Rattle.mr_lines.proofs.FormLaws.{u32_field}
 use Rattle.mr_lines.proofs.RequestLaws.{asked_words, asked_field, keyword_takes}
 use Rattle.mr_lines.proofs.PartLaws.{clean_splits, free_one_line}
 use Rattle.mr_lines.proofs.FormLaws.{u64_field, lane_field, daemon_field, skip_field, route_field, vif_line_field, fate_line_field, FlowFits, forward_words, forward_field, outcome_field, message_field, replied_takes, replied_again, replied_clean}
 use Rattle.mr_lines.specs.declared.line.Line.{Line}
 use Rattle.mr_lines.specs.declared.line.Line.TheVariants as line
 use Rattle.mr_model.specs.declared.entry.FastRecord.{FastRecord}
-use Rattle.mr_model.specs.declared.entry.ReleasedId.{ReleasedId}
-use Rattle.mr_lines.specs.Fields.{whole, nothing_left}
-use Rattle.mr_lines.specs.Fit.{LineFits, no_flow}
-use Rattle.mr_lines.specs.Forms.{spaced}
-use Rattle.mr_lines.specs.Laws.{AreClean, LineTakes, LineAgain, LineClean, LineSplits, LineIsOne}
+use Rattle.mr_lines.specs.Fields.{nothing_left}
+use Rattle.mr_lines.specs.Fit.{LineFits}
+use Rattle.mr_lines.specs.Laws.{LineTakes, LineAgain, LineClean, LineSplits, LineIsOne}
 use Rattle.mr_lines.specs.Lines.{line_words}
 use Rattle.mr_lines.specs.Reading.{is_outcome, to_released, to_record, dash_at, behind_numbers, dash, to_call, to_slow, to_settle, to_tick, to_recv, entry_at, entry_of, line_at, line_of}
-use Rattle.std.specs.Prelude.{◌||◌}
 
 -- both numbers behind `-`
 pub pair_field : IsField (both u32 u32) (λ p. decimal p.0 ∷ decimal p.1 ∷ []) (λ p. Fits32 p.0 × Fits32 p.1)
@@ -176,16 +148,27 @@ line_takes ws l e =
 number_first : (n : ℕ) (ws : List Word) → Fits64 n → line_at (decimal n) ws ≡ by_word (entry_at n) ws
 number_first n ws fits =
     let most : 18446744073709551615 < 2 ^ 64 = lit< tt in
-    rw (no_keyword 18446744073709551615 n (codes "history") most fits refl, no_keyword 18446744073709551615 n (codes "skip") most fits refl,
-        no_keyword 18446744073709551615 n (codes "-") most fits refl, no_keyword 18446744073709551615 n (codes "route") most fits refl,
-        no_keyword 18446744073709551615 n (codes "vif") most fits refl, no_keyword 18446744073709551615 n (codes "fate") most fits refl,
-        no_keyword 18446744073709551615 n (codes "end") most fits refl, number_again 18446744073709551615 n most fits) refl
+    rw (
+      no_keyword 18446744073709551615 n (codes "history") most fits refl,
+      no_keyword 18446744073709551615 n (codes "skip") most fits refl,
+      no_keyword 18446744073709551615 n (codes "-") most fits refl,
+      no_keyword 18446744073709551615 n (codes "route") most fits refl,
+      no_keyword 18446744073709551615 n (codes "vif") most fits refl,
+      no_keyword 18446744073709551615 n (codes "fate") most fits refl,
+      no_keyword 18446744073709551615 n (codes "end") most fits refl,
+      number_again 18446744073709551615 n most fits,
+    ) refl
 
 number_no_outcome : (n : ℕ) → Fits32 n → is_outcome (decimal n) ≡ false
 number_no_outcome n fits =
     let most : 4294967295 < 2 ^ 64 = lit< tt in
-    rw (no_keyword 4294967295 n (codes "fwd") most fits refl, no_keyword 4294967295 n (codes "reg") most fits refl, no_keyword 4294967295 n (codes "wrong") most fits refl,
-        no_keyword 4294967295 n (codes "parked") most fits refl, no_keyword 4294967295 n (codes "drop") most fits refl) refl
+    rw (
+      no_keyword 4294967295 n (codes "fwd") most fits refl,
+      no_keyword 4294967295 n (codes "reg") most fits refl,
+      no_keyword 4294967295 n (codes "wrong") most fits refl,
+      no_keyword 4294967295 n (codes "parked") most fits refl,
+      no_keyword 4294967295 n (codes "drop") most fits refl,
+    ) refl
 
 -- what stands behind both numbers of a released packet
 released_again : (p : ℕ × ℕ) (o : Outcome) → OutcomeFits o → by_word (dash_at p) (outcome_words o ++ []) ≡ Some (to_released p o, [])

@@ -1,7 +1,6 @@
 -- A mask in the bytes of a line, vif by vif.
-use Rattle.std.proofs.Common.{◌≡◌, ℕ, ◌+◌, ◌^◌, ◌<◌, ◌≤◌, ◌==◌, Bool, true, false, nat_le, List, [], ◌∷◌, Option, Some, None, length, refl, sym, ap, ◌∙◌, arith, inl, inr, ne_eqb, le-leb, leb-true, subst, slice_index, ◌⊎◌, eq-eqb, eqb-true}
+use Rattle.std.proofs.Common.{◌≡◌, ℕ, ◌+◌, ◌^◌, ◌<◌, ◌≤◌, ◌==◌, Bool, true, false, nat_le, List, [], ◌∷◌, Option, Some, None, length, refl, sym, ap, ◌∙◌, arith, inl, inr, ne_eqb, le-leb, leb-true, slice_index, ◌⊎◌, eq-eqb, eqb-true}
 use Rattle.std.proofs.lemmas.Bool.{cases_Bool, or_parts, and_parts}
-use Rattle.std.specs.List.{list_all}
 use Rattle.mr_words.specs.Numbers.{is_digit, number_of}
 use Rattle.mr_words.specs.Parts.{before, parts_behind, parts_of}
 use Rattle.mr_lines.specs.Bytes.{behind, ends, begins_comma, digits_of, past_digits}
@@ -24,9 +23,9 @@ word_digits (b ∷ bs) = by_case (is_digit b) refl (word_digits bs)
     by_case : (t : Bool) → is_digit b ≡ t → digits_of (before 32 bs) ≡ digits_of bs → digits_of (before 32 (b ∷ bs)) ≡ digits_of (b ∷ bs)
     by_case true digit inner = rw (digits_apart b digit, digit) (ap (λ w. b ∷ w) inner)
     by_case false other inner = elim (cases_Bool (b == 32)) [
-        | inl space ↦ rw (space, other) refl
-        | inr word ↦ rw (word, other) refl
-      ]
+      | inl space ↦ rw (space, other) refl
+      | inr word ↦ rw (word, other) refl
+    ]
 
 word_past : (bs : List ℕ) → past_digits (before 32 bs) ≡ before 32 (past_digits bs)
 word_past [] = refl
@@ -35,9 +34,9 @@ word_past (b ∷ bs) = by_case (is_digit b) refl (word_past bs)
     by_case : (t : Bool) → is_digit b ≡ t → past_digits (before 32 bs) ≡ before 32 (past_digits bs) → past_digits (before 32 (b ∷ bs)) ≡ before 32 (past_digits (b ∷ bs))
     by_case true digit inner = rw (digits_apart b digit, digit) inner
     by_case false other inner = elim (cases_Bool (b == 32)) [
-        | inl space ↦ rw (space, other, space) refl
-        | inr word ↦ rw (word, other, word) refl
-      ]
+      | inl space ↦ rw (space, other, space) refl
+      | inr word ↦ rw (word, other, word) refl
+    ]
 
 words_past : (bs : List ℕ) → parts_behind 32 bs ≡ parts_behind 32 (past_digits bs)
 words_past [] = refl
@@ -55,7 +54,7 @@ none_first least mask w ws none = rw none refl
 low_first : (least mask v : ℕ) (w : Word) (ws : List Word) → number_of 31 w ≡ Some v → v < least → with_vifs least mask (w ∷ ws) ≡ None
 unfolding with_vifs
 low_first least mask v w ws reads low =
-    let test : nat_le least v ≡ false = elim (cases_Bool (nat_le least v)) [ | inl under ↦ let over : least ≤ v = leb-true least v under in absurd (omega arith) | inr other ↦ other ] in
+    let test : nat_le least v ≡ false = elim (cases_Bool (nat_le least v)) [ inl under ↦ let over : least ≤ v = leb-true least v under in absurd (omega arith) | inr other ↦ other ] in
     rw (reads, test) refl
 
 vif_first : (least mask v : ℕ) (w : Word) (ws : List Word) → number_of 31 w ≡ Some v → least ≤ v → with_vifs least mask (w ∷ ws) ≡ with_vifs (v + 1) (mask + 2 ^ v) ws
@@ -69,23 +68,23 @@ none_left least mask = refl
 -- the first part of the first word is digits, or no number
 first_part : (bs : List ℕ) → (before 44 (before 32 bs) ≡ digits_of bs) ⊎ (number_of 31 (before 44 (before 32 bs)) ≡ None)
 first_part bs = elim (cases_Bool (ends_at 44 (past_digits (before 32 bs)))) [
-    | inl end ↦ inl ((word_ends 44 refl (before 32 bs) end).0 ∙ word_digits bs)
-    | inr on ↦ inr (no_digits 31 (before 44 (before 32 bs)) (word_goes_on 44 refl (before 32 bs) on))
-  ]
+  | inl end ↦ inl ((word_ends 44 refl (before 32 bs) end).0 ∙ word_digits bs)
+  | inr on ↦ inr (no_digits 31 (before 44 (before 32 bs)) (word_goes_on 44 refl (before 32 bs) on))
+]
 
 -- no vif begins
 pub vif_stuck : (least mask : ℕ) (bs : List ℕ) → number_of 31 (digits_of bs) ≡ None → vifs_in least mask bs ≡ None
 vif_stuck least mask bs none = elim (first_part bs) [
-    | inl same ↦ ap (leaving (parts_behind 32 bs)) (none_first least mask _ _ (ap (number_of 31) same ∙ none))
-    | inr other ↦ ap (leaving (parts_behind 32 bs)) (none_first least mask _ _ other)
-  ]
+  | inl same ↦ ap (leaving (parts_behind 32 bs)) (none_first least mask _ _ (ap (number_of 31) same ∙ none))
+  | inr other ↦ ap (leaving (parts_behind 32 bs)) (none_first least mask _ _ other)
+]
 
 -- a vif that is too low
 pub vif_low : (least mask v : ℕ) (bs : List ℕ) → number_of 31 (digits_of bs) ≡ Some v → v < least → vifs_in least mask bs ≡ None
 vif_low least mask v bs reads low = elim (first_part bs) [
-    | inl same ↦ ap (leaving (parts_behind 32 bs)) (low_first least mask v _ _ (ap (number_of 31) same ∙ reads) low)
-    | inr other ↦ ap (leaving (parts_behind 32 bs)) (none_first least mask _ _ other)
-  ]
+  | inl same ↦ ap (leaving (parts_behind 32 bs)) (low_first least mask v _ _ (ap (number_of 31) same ∙ reads) low)
+  | inr other ↦ ap (leaving (parts_behind 32 bs)) (none_first least mask _ _ other)
+]
 
 -- a vif, and behind its comma others
 pub vif_next : (least mask v : ℕ) (bs more : List ℕ) → number_of 31 (digits_of bs) ≡ Some v → least ≤ v → past_digits bs ≡ 44 ∷ more →
@@ -106,12 +105,12 @@ vif_next least mask v bs more reads high past =
 before_end : (left : List ℕ) → ends left ≡ true → before 32 left ≡ []
 before_end [] end = refl
 before_end (b ∷ bs) end = elim (cases_Bool (b == 32)) [
-    | inl space ↦ rw space refl
-    | inr word ↦
-        let some : (length (b ∷ bs) == 0) ≡ false = ne_eqb (length (b ∷ bs)) 0 (λ e. omega (arith, e)) in
-        let none : ends (b ∷ bs) ≡ false = rw (some, word) refl in
-        absurd (cc (none, end))
-  ]
+  | inl space ↦ rw space refl
+  | inr word ↦
+      let some : (length (b ∷ bs) == 0) ≡ false = ne_eqb (length (b ∷ bs)) 0 (λ e. omega (arith, e)) in
+      let none : ends (b ∷ bs) ≡ false = rw (some, word) refl in
+      absurd (cc (none, end))
+]
 
 same_behind : (bs : List ℕ) → behind_sep 32 bs ≡ behind bs
 same_behind [] = refl
@@ -165,9 +164,9 @@ comma_some (b ∷ bs) begins = omega arith
 past_short : (bs : List ℕ) → length (past_digits bs) ≤ length bs
 past_short [] = omega arith
 past_short (b ∷ bs) = elim (cases_Bool (is_digit b)) [
-    | inl digit ↦ rw digit (omega (arith, past_short bs))
-    | inr other ↦ rw other (omega arith)
-  ]
+  | inl digit ↦ rw digit (omega (arith, past_short bs))
+  | inr other ↦ rw other (omega arith)
+]
 
 pub shorter : (b : ℕ) (bs after more : List ℕ) → after ≡ past_digits bs → after ≡ b ∷ more → length more < length bs
 shorter b bs after more is cut =

@@ -1,5 +1,5 @@
 -- Laws of masks as words.
-use Rattle.std.proofs.Common.{◌≡◌, ℕ, zero, suc, ◌+◌, ◌-◌, ◌*◌, ◌/◌, ◌%◌, ◌^◌, ◌<◌, ◌≤◌, ◌==◌, ◌&&◌, Bool, true, false, not, List, [], ◌∷◌, ◌++◌, map, filter, Option, Some, None, option_and_then, option_map, decimal, codes, bytes_eq, nat_le, refl, sym, ap, ◌∙◌, arith, lit<, lit≤, inl, inr, subst, eq-eqb, ne_eqb, eqb-true, le-leb, leb-true, pow-add, pow_mono, shr-shr, pow-suc, div-one, mul-zero, mul-one, mul-add, mul_assoc, mul_right_comm, cond, mul_comm, add-zero, le_refl, zero-add, suc-add}
+use Rattle.std.proofs.Common.{◌≡◌, ℕ, zero, suc, ◌+◌, ◌-◌, ◌*◌, ◌/◌, ◌%◌, ◌^◌, ◌<◌, ◌≤◌, ◌==◌, Bool, true, false, List, [], ◌∷◌, map, filter, Option, Some, None, option_map, decimal, codes, bytes_eq, nat_le, refl, sym, ap, ◌∙◌, arith, lit<, lit≤, inl, inr, subst, eq-eqb, ne_eqb, eqb-true, le-leb, leb-true, pow-add, pow_mono, shr-shr, pow-suc, div-one, mul-zero, mul-add, mul_assoc, mul_right_comm, mul_comm, add-zero, le_refl, zero-add, suc-add}
 use Rattle.std.proofs.lemmas.Bool.{and_from, cases_Bool, eqb-false}
 use Rattle.std.specs.List.{list_all, join_with_byte}
 use Rattle.std.specs.Prelude.{if◌then◌else◌}
@@ -13,9 +13,9 @@ use Rattle.mr_lines.specs.Forms.{Word, mask}
 use Rattle.mr_lines.specs.Laws.{is_free, are_free}
 use Rattle.mr_lines.specs.Words.{with_vifs, to_mask, mask_of}
 use Rattle.mr_lines.proofs.FieldLaws.{IsWord, bound}
-use Rattle.mr_lines.proofs.NumberLaws.{number_word, number_takes, number_again, same_bytes, decimal_digits, digits_lack}
+use Rattle.mr_lines.proofs.NumberLaws.{number_takes, number_again, same_bytes, decimal_digits, digits_lack}
 use Rattle.mr_lines.proofs.WordLaws.{pick, number8_word}
-use Rattle.mr_lines.proofs.PartLaws.{lacks, all_lack, joined_parts, parts_joined, joined_free}
+use Rattle.mr_lines.proofs.PartLaws.{all_lack, joined_parts, parts_joined, joined_free}
 
 -- the set bits of q as numbers from i on
 unfoldable bits_from : ℕ → ℕ → ℕ → List ℕ
@@ -146,6 +146,7 @@ vifs_again (suc k) i q mask all small = by_case (q % 2 == 1) refl (λ n. vifs_ag
   where
     twice : 2 ^ (i + 1) * (q / 2) ≡ 2 ^ i * (q / 2 * 2)
     twice = ap (λ x. x * (q / 2)) (pow-add 2 i 1) ∙ mul_assoc (2 ^ i) 2 (q / 2) ∙ ap (λ x. 2 ^ i * x) (mul_comm 2 (q / 2))
+
     by_case : (t : Bool) → (q % 2 == 1) ≡ t → ((n : ℕ) → with_vifs (i + 1) n (map decimal (bits_from k (i + 1) (q / 2))) ≡ Some (n + 2 ^ (i + 1) * (q / 2))) →
         with_vifs i mask (map decimal (bits_from (suc k) i q)) ≡ Some (mask + 2 ^ i * q)
     by_case true odd inner =
@@ -211,6 +212,7 @@ mask_takes w m e = pick w (codes "-") (Some (to_mask 0)) (option_map to_mask (wi
     none same given =
         let is : to_mask 0 ≡ m = cc given in
         (same ∙ sym mask_empty ∙ ap mask is, subst MaskFits is (lit≤ tt))
+
     some : (o : Option ℕ) → with_vifs 0 0 (parts_of 44 w) ≡ o → option_map to_mask o ≡ Some m → (w ≡ mask m) × MaskFits m
     some None reads given = absurd (cc)
     some (Some n) reads given =
@@ -228,28 +230,28 @@ not_dash k i q all small some = by_list (bits_from k i q) refl
     by_list : (is : List ℕ) → bits_from k i q ≡ is → bytes_eq (join_with_byte 44 (map decimal (bits_from k i q))) (codes "-") ≡ false
     by_list [] e = absurd (some (bits_some k i q small e))
     by_list (v ∷ vs) e = elim (cases_Bool (bytes_eq (join_with_byte 44 (map decimal (bits_from k i q))) (codes "-"))) [
-        | inr other ↦ other
-        | inl same ↦
-            let word : join_with_byte 44 (map decimal (bits_from k i q)) ≡ codes "-" = same_bytes _ _ same in
-            let parts : parts_of 44 (join_with_byte 44 (map decimal (v ∷ vs))) ≡ map decimal (v ∷ vs) = parts_joined 44 (decimal v) (map decimal vs) (rw e at (bits_lack k i q all)) in
-            let first : with_vifs i 0 (parts_of 44 (codes "-")) ≡ Some (0 + 2 ^ i * q) = ap (λ w. with_vifs i 0 (parts_of 44 w)) (sym word ∙ ap (λ is. join_with_byte 44 (map decimal is)) e) ∙ ap (with_vifs i 0) (parts ∙ ap (map decimal) (sym e)) ∙ vifs_again k i q 0 all small in
-            absurd (cc (first, dash_none i))
-      ]
+      | inr other ↦ other
+      | inl same ↦
+          let word : join_with_byte 44 (map decimal (bits_from k i q)) ≡ codes "-" = same_bytes _ _ same in
+          let parts : parts_of 44 (join_with_byte 44 (map decimal (v ∷ vs))) ≡ map decimal (v ∷ vs) = parts_joined 44 (decimal v) (map decimal vs) (rw e at (bits_lack k i q all)) in
+          let first : with_vifs i 0 (parts_of 44 (codes "-")) ≡ Some (0 + 2 ^ i * q) = ap (λ w. with_vifs i 0 (parts_of 44 w)) (sym word ∙ ap (λ is. join_with_byte 44 (map decimal is)) e) ∙ ap (with_vifs i 0) (parts ∙ ap (map decimal) (sym e)) ∙ vifs_again k i q 0 all small in
+          absurd (cc (first, dash_none i))
+    ]
 
 mask_again : (m : Mask) → MaskFits m → mask_of (mask m) ≡ Some m
 mask_again m fits = elim (cases_Bool (m.0 == 0)) [
-    | inl nil ↦
-        let is : to_mask 0 ≡ m = ap to_mask (sym (eqb-true m.0 0 nil)) in
-        ap (λ x. mask_of (mask x)) (sym is) ∙ ap mask_of mask_empty ∙ ap Some is
-    | inr some ↦
-        let word = mask_joined m some in
-        let small : m.0 < 2 ^ 32 = omega arith in
-        let apart : m.0 ≡ 0 → ⊥ = λ e. omega (arith, eqb-false m.0 0 some, e) in
-        let dash = not_dash 32 0 m.0 refl small apart in
-        let cut = cut_again m.0 small apart in
-        let read : with_vifs 0 0 (parts_of 44 (mask m)) ≡ Some m.0 = ap (λ w. with_vifs 0 0 (parts_of 44 w)) word ∙ ap (with_vifs 0 0) cut ∙ vifs_again 32 0 m.0 0 refl small ∙ ap Some (omega arith) in
-        rw (ap (λ w. bytes_eq w (codes "-")) word ∙ dash, read) refl
-  ]
+  | inl nil ↦
+      let is : to_mask 0 ≡ m = ap to_mask (sym (eqb-true m.0 0 nil)) in
+      ap (λ x. mask_of (mask x)) (sym is) ∙ ap mask_of mask_empty ∙ ap Some is
+  | inr some ↦
+      let word = mask_joined m some in
+      let small : m.0 < 2 ^ 32 = omega arith in
+      let apart : m.0 ≡ 0 → ⊥ = λ e. omega (arith, eqb-false m.0 0 some, e) in
+      let dash = not_dash 32 0 m.0 refl small apart in
+      let cut = cut_again m.0 small apart in
+      let read : with_vifs 0 0 (parts_of 44 (mask m)) ≡ Some m.0 = ap (λ w. with_vifs 0 0 (parts_of 44 w)) word ∙ ap (with_vifs 0 0) cut ∙ vifs_again 32 0 m.0 0 refl small ∙ ap Some (omega arith) in
+      rw (ap (λ w. bytes_eq w (codes "-")) word ∙ dash, read) refl
+]
   where
     cut_again : (q : ℕ) → q < 2 ^ 32 → (q ≡ 0 → ⊥) → parts_of 44 (join_with_byte 44 (map decimal (bits_from 32 0 q))) ≡ map decimal (bits_from 32 0 q)
     cut_again q small some = by_list (bits_from 32 0 q) refl
@@ -260,9 +262,9 @@ mask_again m fits = elim (cases_Bool (m.0 == 0)) [
 
 mask_clean : (m : Mask) → MaskFits m → list_all is_free (mask m) ≡ true
 mask_clean m fits = elim (cases_Bool (m.0 == 0)) [
-    | inl nil ↦ ap (λ n. list_all is_free (mask (to_mask n))) (eqb-true m.0 0 nil) ∙ ap (list_all is_free) mask_empty
-    | inr some ↦ ap (list_all is_free) (mask_joined m some) ∙ joined_free 44 refl (map decimal (bits_from 32 0 m.0)) (bits_free 32 0 m.0 refl)
-  ]
+  | inl nil ↦ ap (λ n. list_all is_free (mask (to_mask n))) (eqb-true m.0 0 nil) ∙ ap (list_all is_free) mask_empty
+  | inr some ↦ ap (list_all is_free) (mask_joined m some) ∙ joined_free 44 refl (map decimal (bits_from 32 0 m.0)) (bits_free 32 0 m.0 refl)
+]
 
 pub mask_is : IsWord mask_of mask MaskFits
 mask_is = record { takes = mask_takes; again = mask_again; clean = mask_clean }

@@ -1,11 +1,10 @@
 -- Laws of numbers and addresses as words.
-use Rattle.std.proofs.Common.{◌≡◌, ℕ, ◌+◌, ◌-◌, ◌*◌, ◌/◌, ◌%◌, ◌^◌, ◌<◌, ◌≤◌, ◌==◌, ◌&&◌, ◌||◌, Bool, true, false, not, List, [], ◌∷◌, ◌++◌, Option, Some, None, option_and_then, option_map, length, get_or, slice_index, fold, decimal, codes, bytes_eq, refl, sym, ap, ◌∙◌, arith, eqb-true, ne_eqb, leb-true, le-leb, nat_le, rules, eq-eqb, inl, inr, ltb-true, lt-ltb, eq-zero-or-pos, ◌⊎◌, lit<}
+use Rattle.std.proofs.Common.{◌≡◌, ℕ, ◌^◌, ◌<◌, ◌≤◌, ◌==◌, ◌&&◌, true, false, not, List, [], ◌∷◌, Some, None, length, get_or, slice_index, fold, decimal, bytes_eq, refl, sym, ap, ◌∙◌, arith, eqb-true, ne_eqb, leb-true, le-leb, nat_le, rules, eq-eqb, inl, inr, ltb-true, lt-ltb, eq-zero-or-pos, ◌⊎◌, lit<}
 use Rattle.std.proofs.lemmas.Bool.{and_parts, and_from, cases_Bool, or_cases}
 use Rattle.std.proofs.lemmas.Fmt.{decimal-digits_value, digits_decimal, digits_value-decimal, decimal_nonempty, first_decimal, decimal_digit}
 use Rattle.std.proofs.lemmas.Option.{cond_some}
 use Rattle.std.proofs.lemmas.Str.Parse.{IsNumeralModel, numerals_by_fold}
 use Rattle.std.specs.List.{list_all}
-use Rattle.std.specs.Prelude.{if◌then◌else◌, nat_lt}
 use Rattle.mr_words.specs.Numbers.{is_digit, leads_well, is_numeral, digit_on, number_of}
 use Rattle.mr_lines.specs.Forms.{Word}
 use Rattle.mr_lines.specs.Laws.{is_free}
@@ -25,7 +24,7 @@ digit_other b c digit other =
     let both = and_parts _ _ digit in
     let low : 48 ≤ b = leb-true 48 b both.0 in
     let high : b ≤ 57 = leb-true b 57 both.1 in
-    ne_eqb b c (λ same. elim other [ | inl l ↦ omega arith | inr l ↦ omega arith ])
+    ne_eqb b c (λ same. elim other [ inl l ↦ omega arith | inr l ↦ omega arith ])
 
 pub digits_lack : (c : ℕ) → (c < 48) ⊎ (57 < c) → (ds : List ℕ) → list_all is_digit ds ≡ true → lacks c ds ≡ true
 digits_lack c other [] digits = refl
@@ -47,27 +46,27 @@ decimal_digits n small = digits_decimal own n small
 -- one byte, or several and the first is no zero
 leading : (w : Word) → leads_well w ≡ true → (0 < length w) × (get_or w 0 0 ≡ 48 → length w ≡ 1)
 leading w leads = elim (or_cases _ _ leads) [
-    | inl one ↦ let is : length w ≡ 1 = eqb-true (length w) 1 one in (omega arith, λ zero. is)
-    | inr more ↦
-        let split = and_parts _ _ more in
-        let long : 1 < length w = ltb-true 1 (length w) split.0 in
-        (omega arith, λ zero. cc (split.1, eq-eqb (get_or w 0 0) 48 zero))
-  ]
+  | inl one ↦ let is : length w ≡ 1 = eqb-true (length w) 1 one in (omega arith, λ zero. is)
+  | inr more ↦
+      let split = and_parts _ _ more in
+      let long : 1 < length w = ltb-true 1 (length w) split.0 in
+      (omega arith, λ zero. cc (split.1, eq-eqb (get_or w 0 0) 48 zero))
+]
 
 decimal_leads : (n : ℕ) → n < 2 ^ 64 → leads_well (decimal n) ≡ true
 decimal_leads n small = elim (eq-zero-or-pos n) [
-    | inl zero ↦ rw (zero, decimal_digit 0 (lit< tt)) refl
-    | inr some ↦
-        let first : 48 < get_or (decimal n) 0 0 = first_decimal n some small in
-        let long : 0 < length (decimal n) = decimal_nonempty n small in
-        let other : (slice_index (decimal n) 0 == 48) ≡ false = ne_eqb _ _ (omega arith) in
-        elim (cases_Bool (length (decimal n) == 1)) [
-          | inl one ↦ rw one refl
-          | inr more ↦ 
-              let apart : length (decimal n) ≡ 1 → ⊥ = λ e. cc (more, eq-eqb (length (decimal n)) 1 e) in
-              rw (more, other, lt-ltb 1 (length (decimal n)) (omega arith)) refl
-        ]
-  ]
+  | inl zero ↦ rw (zero, decimal_digit 0 (lit< tt)) refl
+  | inr some ↦
+      let first : 48 < get_or (decimal n) 0 0 = first_decimal n some small in
+      let long : 0 < length (decimal n) = decimal_nonempty n small in
+      let other : (slice_index (decimal n) 0 == 48) ≡ false = ne_eqb _ _ (omega arith) in
+      elim (cases_Bool (length (decimal n) == 1)) [
+        | inl one ↦ rw one refl
+        | inr more ↦
+            let apart : length (decimal n) ≡ 1 → ⊥ = λ e. cc (more, eq-eqb (length (decimal n)) 1 e) in
+            rw (more, other, lt-ltb 1 (length (decimal n)) (omega arith)) refl
+      ]
+]
 
 pub number_takes : (most : ℕ) → most < 2 ^ 64 → (w : Word) (n : ℕ) → number_of most w ≡ Some n → (w ≡ decimal n) × (n ≤ most)
 number_takes most small w n e =
@@ -103,8 +102,8 @@ same_bytes (b ∷ v) (c ∷ w) e =
 -- A number is no word that spells none.
 pub no_keyword : (most n : ℕ) (k : Word) → most < 2 ^ 64 → n ≤ most → number_of most k ≡ None → bytes_eq (decimal n) k ≡ false
 no_keyword most n k small fits none = elim (cases_Bool (bytes_eq (decimal n) k)) [
-    | inl same ↦
-        let is : decimal n ≡ k = same_bytes (decimal n) k same in
-        absurd (cc (number_again most n small fits, ap (number_of most) is, none))
-    | inr other ↦ other
-  ]
+  | inl same ↦
+      let is : decimal n ≡ k = same_bytes (decimal n) k same in
+      absurd (cc (number_again most n small fits, ap (number_of most) is, none))
+  | inr other ↦ other
+]

@@ -1,10 +1,8 @@
 -- Parts joined by their separator are the text again, and a text of parts without separators is cut into just these.
-use Rattle.std.proofs.Common.{◌≡◌, ℕ, ◌<◌, ◌==◌, ◌&&◌, Bool, true, false, not, List, [], ◌∷◌, ◌++◌, length, refl, sym, ap, ◌∙◌, arith, eqb-true, eq-eqb}
-use Rattle.std.proofs.lemmas.Bool.{and_parts, and_from, cases_Bool}
+use Rattle.std.proofs.Common.{◌≡◌, ℕ, ◌==◌, Bool, true, false, not, List, [], ◌∷◌, ◌++◌, refl, sym, ap, ◌∙◌, arith, eqb-true, eq-eqb}
+use Rattle.std.proofs.lemmas.Bool.{and_parts, and_from}
 use Rattle.std.proofs.lemmas.List.Folds.{list_all-append}
-use Rattle.std.proofs.Common.{inl, inr}
 use Rattle.std.specs.List.{list_all, join_with_byte}
-use Rattle.std.specs.Prelude.{if◌then◌else◌}
 use Rattle.mr_words.specs.Parts.{before, parts_behind, parts_of}
 use Rattle.mr_lines.specs.Forms.{Word, spaced}
 use Rattle.mr_lines.specs.Laws.{is_free, are_free, AreClean, is_one_line, SpacedAgain}

@@ -5,10 +5,10 @@ use Rattle.mr_lines.specs.declared.line.Line.{Line}
 use Rattle.mr_lines.specs.declared.line.Line.TheVariants as line
 use Rattle.mr_model.specs.declared.entry.FastRecord.{FastRecord}
 use Rattle.mr_words.specs.Parts.{before, parts_of}
-use Rattle.mr_lines.specs.Fields.{both, mapped, renamed, whole, nothing_left}
+use Rattle.mr_lines.specs.Fields.{both, renamed, whole, nothing_left}
 use Rattle.mr_lines.specs.Fit.{RecordFits}
 use Rattle.mr_lines.specs.Forms.{Word}
-use Rattle.mr_lines.specs.Lines.{line_words, record_words}
+use Rattle.mr_lines.specs.Lines.{line_words}
 use Rattle.mr_lines.specs.Reading.{u32, vif_or_none, mask, record_of, record_behind, record_fields, as_record, line_of}
 use Rattle.mr_lines.proofs.FieldLaws.{bound, Takes}
 use Rattle.mr_lines.proofs.FormLaws.{forward_words, forward_field}

@@ -1,48 +1,26 @@
 -- Laws of requests.
-use Rattle.std.proofs.Common.{◌≡◌, ℕ, zero, suc, ◌+◌, ◌<◌, ◌≤◌, ◌==◌, ◌&&◌, Bool, true, false, List, [], ◌∷◌, ◌++◌, Option, Some, None, option_and_then, length, slice_index, decimal, codes, bytes_eq, refl, sym, ap, ◌∙◌, arith, lit<, lit≤, inl, inr, eqb-true, subst, append_assoc}
-use Rattle.std.proofs.lemmas.Bool.{and_from, and_parts, cases_Bool}
+use Rattle.std.proofs.Common.{◌≡◌, ℕ, ◌==◌, Bool, true, false, List, [], ◌∷◌, ◌++◌, Some, None, option_and_then, decimal, codes, refl, sym, ap, ◌∙◌, arith, lit<, inl, inr, eqb-true, subst, append_assoc}
+use Rattle.std.proofs.lemmas.Bool.{and_from, cases_Bool}
 use Rattle.std.proofs.lemmas.Option.{some_pair_parts}
 use Rattle.std.specs.List.{list_all}
 use Rattle.std.specs.Prelude.{if◌then◌else◌}
-use Rattle.mr_base.specs.declared.numbers.Addr.{Addr}
-use Rattle.mr_base.specs.declared.numbers.DaemonNo.{DaemonNo}
-use Rattle.mr_base.specs.declared.numbers.LaneNo.{LaneNo}
-use Rattle.mr_base.specs.declared.numbers.Mask.{Mask}
-use Rattle.mr_lines.specs.declared.skip.Skip.{Skip}
-use Rattle.mr_lines.specs.declared.tail.RouteLine.{RouteLine}
-use Rattle.mr_lines.specs.declared.tail.VifLine.{VifLine}
-use Rattle.mr_model.specs.declared.ending.Fate.{Fate}
-use Rattle.mr_model.specs.declared.ending.Fate.TheVariants as fate
-use Rattle.mr_model.specs.declared.ending.FateLine.{FateLine}
-use Rattle.mr_model.specs.declared.message.Kind.{Kind}
-use Rattle.mr_model.specs.declared.message.Kind.TheVariants as kind
-use Rattle.mr_model.specs.declared.message.MessageId.{MessageId}
-use Rattle.mr_model.specs.declared.outcome.Outcome.{Outcome}
-use Rattle.mr_model.specs.declared.outcome.Outcome.TheVariants as outcome
-use Rattle.mr_model.specs.declared.outcome.Report.{Report}
-use Rattle.mr_model.specs.declared.reply.Reply.{Reply}
-use Rattle.mr_model.specs.declared.reply.Reply.TheVariants as reply
-use Rattle.mr_model.specs.declared.reply.RouteTotals.{RouteTotals}
-use Rattle.mr_model.specs.declared.reply.VifTotals.{VifTotals}
 use Rattle.mr_model.specs.declared.request.MfcCtl.{MfcCtl}
 use Rattle.mr_model.specs.declared.request.MfcKey.{MfcKey}
 use Rattle.mr_model.specs.declared.request.Request.{Request}
 use Rattle.mr_model.specs.declared.request.Request.TheVariants as request
 use Rattle.mr_model.specs.declared.request.VifCtl.{VifCtl}
-use Rattle.mr_words.specs.Numbers.{number_of, address_of}
-use Rattle.mr_lines.specs.Fields.{Read, one, leaving, both, further, mapped, renamed, closing, closed_by, by_word, keyword, done}
-use Rattle.mr_lines.specs.Fit.{Fits8, Fits16, Fits32, Fits64, AddrFits, LaneFits, DaemonFits, MaskFits, VifFits, TtlsFit, VifCtlFits, MfcCtlFits, MfcKeyFits, RequestFits, RouteTotalsFit, VifTotalsFit, ReplyFits, OutcomeFits, MessageFits, FateFits, SkipFits, RouteLineFits, VifLineFits, FateLineFits}
-use Rattle.mr_lines.specs.Forms.{Word, address, vif_or_none as vif_text, mask as mask_text, local_word, thresholds, route_words, key_words}
+use Rattle.mr_words.specs.Numbers.{address_of}
+use Rattle.mr_lines.specs.Fields.{one, both, renamed, closing, by_word, keyword}
+use Rattle.mr_lines.specs.Fit.{Fits8, Fits16, Fits32, AddrFits, TtlsFit, VifCtlFits, MfcCtlFits, MfcKeyFits, RequestFits}
+use Rattle.mr_lines.specs.Forms.{Word, local_word, thresholds, route_words, key_words}
 use Rattle.mr_lines.specs.Laws.{is_free, are_free}
-use Rattle.mr_lines.specs.Lines.{request_words, route_total_words, vif_total_words, reply_words, report_word, cause_word, told_word, outcome_words, kind_word, message_words, fate_words}
-use Rattle.mr_lines.specs.Reading.{u8, u16, u32, u64, addr, vif_or_none, mask, to_lane, lane, to_daemon, daemon, to_route_totals, route_totals, to_vif_totals, vif_totals, to_vif_ctl, with_local, vif_ctl, to_key, key, ttls, to_route_ctl, route_ctl, to_count, request_at, asked, good, reply_at, replied, to_forward, to_register, to_wrong, outcome_at, happened, to_skip, skip, to_route, route, to_vif, vif, fate_at, to_fate, fate_line, to_message, message_of, message_at}
-use Rattle.mr_lines.specs.Words.{number8, number16, number32, number64, to_addr, addr_of, vif_or_none_of, mask_of, name_of, at_number, local_of, ttls_from, errno_of, report_of, told_of, cause_of, kind_of}
-use Rattle.mr_lines.proofs.FieldLaws.{IsWord, IsField, bound, free_append, one_field, both_field, mapped_field, Takes, Again, both_takes, both_again, mapped_takes, mapped_again, word_takes, keyed, alone}
+use Rattle.mr_lines.specs.Lines.{request_words}
+use Rattle.mr_lines.specs.Reading.{u8, u16, to_vif_ctl, with_local, vif_ctl, key, ttls, to_route_ctl, route_ctl, to_count, request_at, asked}
+use Rattle.mr_lines.specs.Words.{number32, at_number, local_of, ttls_from}
+use Rattle.mr_lines.proofs.FieldLaws.{IsWord, IsField, bound, free_append, one_field, both_field, Takes, Again, both_takes, both_again, mapped_takes, mapped_again, word_takes, keyed, alone}
 use Rattle.mr_lines.proofs.ItemLaws.{ttls_take, ttls_long, ttls_small, ttls_again, ttls_clean}
-use Rattle.mr_lines.proofs.MaskLaws.{mask_is}
-use Rattle.mr_lines.proofs.NumberLaws.{number_word, number_takes, number_again, no_keyword}
-use Rattle.mr_lines.proofs.WordLaws.{pick, vif_word, report_is, told_is, cause_is, kind_is, errno_word, errno_is, NameFits, name_is, address_takes, address_again, address_clean, addr_is, Any}
-
+use Rattle.mr_lines.proofs.NumberLaws.{number_word, number_takes, number_again}
+use Rattle.mr_lines.proofs.WordLaws.{pick, address_takes, address_again, address_clean}
 use Rattle.mr_lines.proofs.FormLaws.{u8_field, u16_field, u32_field, key_field, count_field}
 
 -- the local field
@@ -52,12 +30,13 @@ local_takes v flags w n e = by_case (flags == 8) refl w e
   where
     number : (flags == 8) ≡ true → (b : ℕ) (w : Word) → (if b == 64 then number32 w else None) ≡ Some n → (b ∷ w ≡ local_word (to_vif_ctl (v, flags) n)) × Fits32 n
     number device b w given = elim (cases_Bool (b == 64)) [
-        | inr other ↦ let none : None ≡ Some n = rw other at given in absurd (cc none)
-        | inl at ↦
-            let read : number32 w ≡ Some n = rw at at given in
-            let taken = number_takes 4294967295 (lit< tt) w n read in
-            (rw device (λ i. eqb-true b 64 at i ∷ taken.0 i), taken.1)
-      ]
+      | inr other ↦ let none : None ≡ Some n = rw other at given in absurd (cc none)
+      | inl at ↦
+          let read : number32 w ≡ Some n = rw at at given in
+          let taken = number_takes 4294967295 (lit< tt) w n read in
+          (rw device (λ i. eqb-true b 64 at i ∷ taken.0 i), taken.1)
+    ]
+
     by_case : (t : Bool) → (flags == 8) ≡ t → (w : Word) → (if t then at_number w else address_of w) ≡ Some n → (w ≡ local_word (to_vif_ctl (v, flags) n)) × Fits32 n
     by_case true device [] given = absurd (cc)
     by_case true device (b ∷ w) given = number device b w given
@@ -66,16 +45,16 @@ local_takes v flags w n e = by_case (flags == 8) refl w e
 local_again : (v flags n : ℕ) → Fits32 n → local_of flags (local_word (to_vif_ctl (v, flags) n)) ≡ Some n
 unfolding local_word
 local_again v flags n fits = elim (cases_Bool (flags == 8)) [
-    | inl device ↦ rw device (number_again 4294967295 n (lit< tt) fits)
-    | inr other ↦ rw other (address_again n fits)
-  ]
+  | inl device ↦ rw device (number_again 4294967295 n (lit< tt) fits)
+  | inr other ↦ rw other (address_again n fits)
+]
 
 local_clean : (v flags n : ℕ) → Fits32 n → list_all is_free (local_word (to_vif_ctl (v, flags) n)) ≡ true
 unfolding local_word
 local_clean v flags n fits = elim (cases_Bool (flags == 8)) [
-    | inl device ↦ rw device ((number_word 4294967295 (lit< tt)).clean n fits)
-    | inr other ↦ rw other (address_clean n fits)
-  ]
+  | inl device ↦ rw device ((number_word 4294967295 (lit< tt)).clean n fits)
+  | inr other ↦ rw other (address_clean n fits)
+]
 
 local_is : (v flags : ℕ) → IsWord (local_of flags) (λ n. local_word (to_vif_ctl (v, flags) n)) Fits32
 local_is v flags = record { takes = local_takes v flags; again = local_again v flags; clean = local_clean v flags }

@@ -1,10 +1,8 @@
 -- Laws of single words.
-use Rattle.std.proofs.Common.{◌≡◌, ℕ, zero, suc, ◌+◌, ◌-◌, ◌*◌, ◌/◌, ◌%◌, ◌^◌, ◌<◌, ◌≤◌, ◌==◌, ◌&&◌, ◌||◌, Bool, true, false, not, List, [], ◌∷◌, ◌++◌, Option, Some, None, option_and_then, option_map, length, decimal, codes, bytes_eq, refl, sym, ap, ◌∙◌, arith, lit<, lit≤, inl, inr, eqb-true, subst, append_assoc, le-leb}
+use Rattle.std.proofs.Common.{◌≡◌, ℕ, ◌+◌, ◌*◌, ◌/◌, ◌%◌, ◌≤◌, ◌==◌, Bool, true, false, List, [], ◌∷◌, Option, Some, None, option_and_then, option_map, decimal, codes, bytes_eq, refl, sym, ap, ◌∙◌, arith, lit<, lit≤, inl, inr, eqb-true, subst, append_assoc, le-leb}
 use Rattle.std.proofs.lemmas.Bool.{and_parts, and_from, cases_Bool, or_cases}
 use Rattle.std.proofs.lemmas.Bool.Decides.{nat_tests}
-use Rattle.std.proofs.lemmas.Fmt.{decimal-digits_value}
 use Rattle.std.proofs.lemmas.Option.{cond_some}
-use Rattle.std.proofs.lemmas.List.Folds.{list_all-append}
 use Rattle.std.specs.List.{list_all, join_with_byte}
 use Rattle.std.specs.Prelude.{if◌then◌else◌}
 use Rattle.mr_base.specs.Errnos.{number_of as errno_number}
@@ -17,17 +15,16 @@ use Rattle.mr_model.specs.declared.outcome.Cause.{Cause}
 use Rattle.mr_model.specs.declared.outcome.Cause.TheVariants as cause
 use Rattle.mr_model.specs.declared.outcome.Report.{Report}
 use Rattle.mr_model.specs.declared.outcome.Report.TheVariants as report
-use Rattle.mr_model.specs.declared.request.VifCtl.{VifCtl}
-use Rattle.mr_words.specs.Names.{is_plain, is_clean, is_letter, is_name_byte, begins_name, is_device_name}
+use Rattle.mr_words.specs.Names.{is_plain, is_clean, is_name_byte}
 use Rattle.mr_words.specs.Numbers.{number_of, joined, four_parts, address_of}
 use Rattle.mr_words.specs.Parts.{parts_of}
 use Rattle.mr_lines.specs.Fit.{AddrFits, Fits8, Fits32, VifFits, is_vif_name}
-use Rattle.mr_lines.specs.Forms.{Word, address, vif_or_none, local_word}
+use Rattle.mr_lines.specs.Forms.{Word, address, vif_or_none}
 use Rattle.mr_lines.specs.Laws.{is_free}
 use Rattle.mr_lines.specs.Lines.{report_word, cause_word, told_word, kind_word}
-use Rattle.mr_lines.specs.Words.{number8, number32, to_addr, addr_of, vif_or_none_of, name_of, at_number, local_of, errno_of, report_of, told_of, cause_of, kind_of}
-use Rattle.mr_lines.proofs.FieldLaws.{IsWord, bound}
-use Rattle.mr_lines.proofs.NumberLaws.{number_word, number_takes, number_again, no_keyword, same_bytes, decimal_digits, digits_lack, digits_free}
+use Rattle.mr_lines.specs.Words.{number8, to_addr, addr_of, vif_or_none_of, name_of, errno_of, report_of, told_of, cause_of, kind_of}
+use Rattle.mr_lines.proofs.FieldLaws.{IsWord}
+use Rattle.mr_lines.proofs.NumberLaws.{number_word, number_takes, no_keyword, same_bytes, decimal_digits, digits_lack}
 use Rattle.mr_lines.proofs.PartLaws.{lacks, joined_parts, parts_joined, joined_free}
 
 pub number8_word : IsWord number8 decimal Fits8
@@ -49,6 +46,7 @@ vif_takes w x e = pick w (codes "-") (Some None) (option_map Some (number8 w)) (
     none : (x : Option ℕ) → w ≡ codes "-" → ◌≡◌ {A = Option (Option ℕ)} (Some None) (Some x) → (w ≡ vif_or_none x) × VifFits x
     none None same given = (same, tt)
     none (Some n) same given = absurd (cc)
+
     some : (o : Option ℕ) → number8 w ≡ o → (x : Option ℕ) → option_map Some o ≡ Some x → (w ≡ vif_or_none x) × VifFits x
     some None reads x given = absurd (cc)
     some (Some n) reads None given = absurd (cc)
@@ -90,6 +88,7 @@ report_is = record { takes = report_takes; again = again; clean = clean }
     again report.Quiet _ = refl
     again report.Told _ = refl
     again report.Lost _ = refl
+
     clean : (x : Report) → Any x → list_all is_free (report_word x) ≡ true
     clean report.Quiet _ = refl
     clean report.Told _ = refl
@@ -106,6 +105,7 @@ told_is = record { takes = told_takes; again = again; clean = clean }
     again : (x : Bool) → Any x → told_of (told_word x) ≡ Some x
     again true _ = refl
     again false _ = refl
+
     clean : (x : Bool) → Any x → list_all is_free (told_word x) ≡ true
     clean true _ = refl
     clean false _ = refl
@@ -127,6 +127,7 @@ cause_is = record { takes = cause_takes; again = again; clean = clean }
     again cause.Entries _ = refl
     again cause.Packets _ = refl
     again cause.Upcall _ = refl
+
     clean : (x : Cause) → Any x → list_all is_free (cause_word x) ≡ true
     clean cause.NoVif _ = refl
     clean cause.NoDaemon _ = refl
@@ -147,6 +148,7 @@ kind_is = record { takes = kind_takes; again = again; clean = clean }
     again kind.NoCache _ = refl
     again kind.WrongVif _ = refl
     again kind.WholePkt _ = refl
+
     clean : (x : Kind) → Any x → list_all is_free (kind_word x) ≡ true
     clean kind.NoCache _ = refl
     clean kind.WrongVif _ = refl
@@ -200,12 +202,12 @@ NameFits w = is_vif_name w ≡ true
 
 name_byte_free : (b : ℕ) → is_name_byte b ≡ true → is_free b ≡ true
 name_byte_free b h = elim (cases_Bool (b == 32)) [
-    | inl space ↦ cc (h, eqb-true b 32 space)
-    | inr other ↦ elim (cases_Bool (b == 10)) [
-        | inl feed ↦ cc (h, eqb-true b 10 feed)
-        | inr further ↦ rw (other, further) refl
-      ]
+  | inl space ↦ cc (h, eqb-true b 32 space)
+  | inr other ↦ elim (cases_Bool (b == 10)) [
+    | inl feed ↦ cc (h, eqb-true b 10 feed)
+    | inr further ↦ rw (other, further) refl
   ]
+]
 
 name_bytes_free : (w : Word) → list_all is_name_byte w ≡ true → list_all is_free w ≡ true
 name_bytes_free [] h = refl
@@ -221,15 +223,15 @@ name_bytes_plain (b ∷ w) h = let split = and_parts _ _ h in and_from _ _ (name
 
 pub name_plain : (w : Word) → NameFits w → is_clean w ≡ true
 name_plain w fits = elim (or_cases _ _ fits) [
-    | inl device ↦ name_bytes_plain w (and_parts _ _ device).1
-    | inr register ↦ let same : w ≡ codes "pimreg" = same_bytes w (codes "pimreg") register in rw same refl
-  ]
+  | inl device ↦ name_bytes_plain w (and_parts _ _ device).1
+  | inr register ↦ let same : w ≡ codes "pimreg" = same_bytes w (codes "pimreg") register in rw same refl
+]
 
 name_clean : (w : Word) → NameFits w → list_all is_free w ≡ true
 name_clean w fits = elim (or_cases _ _ fits) [
-    | inl device ↦ name_bytes_free w (and_parts _ _ device).1
-    | inr register ↦ let same : w ≡ codes "pimreg" = same_bytes w (codes "pimreg") register in rw same refl
-  ]
+  | inl device ↦ name_bytes_free w (and_parts _ _ device).1
+  | inr register ↦ let same : w ≡ codes "pimreg" = same_bytes w (codes "pimreg") register in rw same refl
+]
 
 pub name_is : IsWord name_of (λ w. w) NameFits
 name_is = record {

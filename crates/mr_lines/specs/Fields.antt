@@ -1,5 +1,5 @@
 -- Fields: each takes the words that it needs from the front and leaves those behind them.
-use Rattle.std.specs.Prelude.{◌==◌, if◌then◌else◌, Option, Some, None, option_and_then, List, [], ◌∷◌, length, bytes_eq}
+use Rattle.std.specs.Prelude.{if◌then◌else◌, Option, Some, None, option_and_then, List, [], ◌∷◌, bytes_eq}
 use Rattle.mr_lines.specs.Forms.{Word}
 
 abbrev pub Read : Type 0 → Type 0

@@ -1,5 +1,5 @@
 -- The words of each line of a history.
-use Rattle.std.specs.Prelude.{ℕ, Bool, true, false, Option, Some, None, List, [], ◌∷◌, ◌++◌, codes, decimal}
+use Rattle.std.specs.Prelude.{Bool, true, false, Option, Some, None, List, [], ◌∷◌, ◌++◌, codes, decimal}
 use Rattle.mr_base.specs.Errnos.{number_of}
 use Rattle.mr_lines.specs.declared.line.Line.{Line}
 use Rattle.mr_lines.specs.declared.line.Line.TheVariants as line
@@ -26,7 +26,7 @@ use Rattle.mr_model.specs.declared.reply.RouteTotals.{RouteTotals}
 use Rattle.mr_model.specs.declared.reply.VifTotals.{VifTotals}
 use Rattle.mr_model.specs.declared.request.Request.{Request}
 use Rattle.mr_model.specs.declared.request.Request.TheVariants as request
-use Rattle.mr_lines.specs.Forms.{Word, address, mask, vif_or_none, local_word, thresholds, route_words, key_words}
+use Rattle.mr_lines.specs.Forms.{Word, address, mask, vif_or_none, local_word, route_words, key_words}
 
 abbrev pub request_words : Request → List Word
 request_words request.Init = codes "init" ∷ []

@@ -13,7 +13,6 @@ use Rattle.mr_model.specs.declared.ending.Fate.{Fate}
 use Rattle.mr_model.specs.declared.ending.Fate.TheVariants as fate
 use Rattle.mr_model.specs.declared.ending.FateLine.{FateLine}
 use Rattle.mr_model.specs.declared.entry.FastRecord.{FastRecord}
-use Rattle.mr_model.specs.declared.entry.ReleasedId.{ReleasedId}
 use Rattle.mr_model.specs.declared.message.Kind.{Kind}
 use Rattle.mr_model.specs.declared.message.MessageId.{MessageId}
 use Rattle.mr_model.specs.declared.outcome.Outcome.{Outcome}

@@ -100,13 +100,7 @@ pub fn past_dash(bytes: &[u8]) -> Option<&[u8]>
     ensures { MatchOption result (bytes_eq (before 32 bytes.now) (codes "-") ≡ false) (λ x. parts_of 32 bytes.now ≡ codes "-" ∷ behind x.now) }
 {
     match bytes {
-        [b'-', left @ ..] => {
-            if ends(left) {
-                Some(left)
-            } else {
-                None
-            }
-        }
+        [b'-', left @ ..] => { if ends(left) { Some(left) } else { None } }
         _ => None,
     }
 }

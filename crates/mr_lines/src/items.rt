@@ -27,13 +27,7 @@ fn asked_for(i: u32, word: &[u8]) -> u8
     ensures { result ≡ asked_for i (item_of word.now) }
 {
     match item_of(word) {
-        Some((vif, ttl)) => {
-            if vif == i {
-                ttl as u8
-            } else {
-                0
-            }
-        }
+        Some((vif, ttl)) => { if vif == i { ttl as u8 } else { 0 } }
         None => 0,
     }
 }
@@ -47,11 +41,7 @@ fn item_for(rest: &[u8], i: u32) -> (u8, &[u8])
         None => (0, rest),
         Some((word, after)) => {
             let ttl = asked_for(i, word);
-            if ttl == 0 {
-                (0, rest)
-            } else {
-                (ttl, after)
-            }
+            if ttl == 0 { (0, rest) } else { (ttl, after) }
         }
     }
 }

@@ -73,4 +73,3 @@ pub fn u64_at(rest: &[u8]) -> Option<(u64, &[u8])>
         [_, bytes @ ..] => first_u64(bytes),
     }
 }
-

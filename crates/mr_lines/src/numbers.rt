@@ -14,7 +14,9 @@ use mr_words::is_digit;
 pub fn begins_number(bytes: &[u8]) -> bool
     ensures { result ≡ begins_number bytes.now }
 {
-    bytes.len() != 0 && is_digit(bytes[0]) && (bytes[0] != b'0' || bytes.len() == 1 || !is_digit(bytes[1]))
+    bytes.len() != 0
+        && is_digit(bytes[0])
+        && (bytes[0] != b'0' || bytes.len() == 1 || !is_digit(bytes[1]))
 }
 
 /// A number with one more digit, if it is at most `most`.

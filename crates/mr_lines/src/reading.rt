@@ -8,7 +8,9 @@ ghost use Rattle.mr_lines.specs.declared.line.Line.TheVariants as line;
 ghost use Rattle.mr_words.specs.Parts.{parts_of};
 
 use crate::cursor::{first_word, next_word};
-use crate::fields::{addr_at, daemon_at, lane_at, name_at, past_dash, route_totals_at, vif_or_none_at, vif_totals_at};
+use crate::fields::{
+    addr_at, daemon_at, lane_at, name_at, past_dash, route_totals_at, vif_or_none_at, vif_totals_at,
+};
 use crate::line::Line;
 use crate::long_numbers::{first_u64, u64_at};
 use crate::masks::mask_at;
@@ -125,11 +127,7 @@ fn whole_record(rest: &[u8]) -> Option<FastRecord>
     ensures { result ≡ whole record_fields (behind rest.now) }
 {
     let (record, rest) = record_fields(rest)?;
-    if rest.len() == 0 {
-        Some(record)
-    } else {
-        None
-    }
+    if rest.len() == 0 { Some(record) } else { None }
 }
 
 /// The record whose line bytes without a line feed spell, if they spell one. It is quicker than `read_line`.
@@ -204,7 +202,14 @@ fn entry_by_word<'a>(number: u64, word: &[u8], rest: &'a [u8]) -> Option<(Line, 
     } else if word == b"settle".as_slice() {
         let (lane, rest) = lane_at(rest)?;
         let (count, rest) = u64_at(rest)?;
-        Some((Line::Settle { number, lane, count }, rest))
+        Some((
+            Line::Settle {
+                number,
+                lane,
+                count,
+            },
+            rest,
+        ))
     } else if word == b"tick".as_slice() {
         let (daemon, rest) = daemon_at(rest)?;
         let (ms, rest) = u32_at(rest)?;
@@ -282,9 +287,5 @@ pub fn read_line(line: &[u8]) -> Option<Line>
 {
     let (word, rest) = first_word(line);
     let (read, rest) = line_by_word(line, word, rest)?;
-    if rest.len() == 0 {
-        Some(read)
-    } else {
-        None
-    }
+    if rest.len() == 0 { Some(read) } else { None }
 }

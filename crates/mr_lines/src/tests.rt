@@ -1,15 +1,20 @@
 use super::*;
 use mr_base::{Addr, DaemonNo, Errno, LaneNo, Mask};
-use mr_model::{Cause, FastRecord, Fate, FateLine, Flow, Kind, MessageId, MfcCtl, MfcKey, Outcome, ReleasedId, Reply, Report, Request, RouteTotals, VifCtl, VifTotals};
+use mr_model::{
+    Cause, FastRecord, Fate, FateLine, Flow, Kind, MessageId, MfcCtl, MfcKey, Outcome, ReleasedId,
+    Reply, Report, Request, RouteTotals, VifCtl, VifTotals,
+};
 
 fn is_call(line: &[u8], number: u64, daemon: u32, request: Request, reply: Reply) -> bool {
     match read_line(line) {
-        Some(Line::Call {
-            number: n,
-            daemon: d,
-            request: q,
-            reply: r,
-        }) => n == number && d == DaemonNo(daemon) && q == request && r == reply,
+        Some(
+            Line::Call {
+                number: n,
+                daemon: d,
+                request: q,
+                reply: r,
+            },
+        ) => n == number && d == DaemonNo(daemon) && q == request && r == reply,
         _ => false,
     }
 }
@@ -24,30 +29,35 @@ fn replies(line: &[u8], reply: Reply) -> bool {
 
 fn is_slow(line: &[u8], outcome: Outcome) -> bool {
     match read_line(line) {
-        Some(Line::Slow {
-            number,
-            lane,
-            index,
-            look,
-            outcome: o,
-        }) => number == 9 && lane == LaneNo(1) && index == 2 && look == 3 && o == outcome,
+        Some(
+            Line::Slow {
+                number,
+                lane,
+                index,
+                look,
+                outcome: o,
+            },
+        ) => number == 9 && lane == LaneNo(1) && index == 2 && look == 3 && o == outcome,
         _ => false,
     }
 }
 
 fn is_recv(line: &[u8], message: Option<MessageId>) -> bool {
     match read_line(line) {
-        Some(Line::Recv {
-            number,
-            daemon,
-            message: m,
-        }) => number == 4 && daemon == DaemonNo(1) && m == message,
+        Some(
+            Line::Recv {
+                number,
+                daemon,
+                message: m,
+            },
+        ) => number == 4 && daemon == DaemonNo(1) && m == message,
         _ => false,
     }
 }
 
 fn is_record(line: &[u8], record: FastRecord) -> bool {
-    read_record(line) == Some(record) && matches!(read_line(line), Some(Line::Record(r)) if r == record)
+    read_record(line) == Some(record)
+        && matches!(read_line(line), Some(Line::Record(r)) if r == record)
 }
 
 fn is_none(line: &[u8]) -> bool {
@@ -104,22 +114,42 @@ fn requests(rt: HostRuntime) {
         flags: 8,
         local: 4_294_967_295,
     };
-    assert!(rt; asks(b"1 call 2 addvif 65535 8 @4294967295 = ok", Request::AddVif(device)));
+    assert!(rt;
+        asks(
+            b"1 call 2 addvif 65535 8 @4294967295 = ok",
+            Request::AddVif(device)
+        )
+    );
     let register = VifCtl {
         vif: 0,
         flags: 4,
         local: 0,
     };
-    assert!(rt; asks(b"1 call 2 addvif 0 4 0.0.0.0 = ok", Request::AddVif(register)));
+    assert!(rt;
+        asks(
+            b"1 call 2 addvif 0 4 0.0.0.0 = ok",
+            Request::AddVif(register)
+        )
+    );
     assert!(rt; is_none(b"1 call 2 addvif 0 8 0.0.0.0 = ok"));
     assert!(rt; is_none(b"1 call 2 addvif 0 4 @0 = ok"));
     assert!(rt; is_none(b"1 call 2 addvif 0 256 0.0.0.0 = ok"));
     assert!(rt; is_none(b"1 call 2 addvif 65536 0 0.0.0.0 = ok"));
     let mut ttls = [0u8; 32];
-    assert!(rt; asks(b"1 call 2 addmfc 10.0.0.1 224.1.2.3 0 = ok", Request::AddMfc(route(0, ttls))));
+    assert!(rt;
+        asks(
+            b"1 call 2 addmfc 10.0.0.1 224.1.2.3 0 = ok",
+            Request::AddMfc(route(0, ttls))
+        )
+    );
     ttls[0] = 1;
     ttls[31] = 255;
-    assert!(rt; asks(b"1 call 2 addproxy 10.0.0.1 224.1.2.3 65535 0:1 31:255 = ok", Request::AddProxy(route(65_535, ttls))));
+    assert!(rt;
+        asks(
+            b"1 call 2 addproxy 10.0.0.1 224.1.2.3 65535 0:1 31:255 = ok",
+            Request::AddProxy(route(65_535, ttls))
+        )
+    );
     assert!(rt; is_none(b"1 call 2 addmfc 10.0.0.1 224.1.2.3 0 31:255 0:1 = ok"));
     assert!(rt; is_none(b"1 call 2 addmfc 10.0.0.1 224.1.2.3 0 0:0 = ok"));
     assert!(rt; is_none(b"1 call 2 addmfc 10.0.0.1 224.1.2.3 0 32:1 = ok"));
@@ -129,8 +159,18 @@ fn requests(rt: HostRuntime) {
         dst: Addr(4_294_967_295),
         parent: 7,
     };
-    assert!(rt; asks(b"1 call 2 delmfc 0.0.0.0 255.255.255.255 7 = ok", Request::DelMfc(key)));
-    assert!(rt; asks(b"1 call 2 delproxy 0.0.0.0 255.255.255.255 7 = ok", Request::DelProxy(key)));
+    assert!(rt;
+        asks(
+            b"1 call 2 delmfc 0.0.0.0 255.255.255.255 7 = ok",
+            Request::DelMfc(key)
+        )
+    );
+    assert!(rt;
+        asks(
+            b"1 call 2 delproxy 0.0.0.0 255.255.255.255 7 = ok",
+            Request::DelProxy(key)
+        )
+    );
     assert!(rt; is_none(b"1 call 2 delmfc 0.0.0.0 255.255.255.256 7 = ok"));
     assert!(rt; asks(b"1 call 2 init = ok", Request::Init));
     assert!(rt; asks(b"1 call 2 done = ok", Request::Finish));
@@ -156,18 +196,36 @@ fn requests(rt: HostRuntime) {
 
 #[test]
 fn replies_of_calls(rt: HostRuntime) {
-    assert!(rt; is_call(b"18446744073709551615 call 4294967295 init = ok", 18_446_744_073_709_551_615, 4_294_967_295, Request::Init, Reply::Good));
+    assert!(rt;
+        is_call(
+            b"18446744073709551615 call 4294967295 init = ok",
+            18_446_744_073_709_551_615,
+            4_294_967_295,
+            Request::Init,
+            Reply::Good
+        )
+    );
     assert!(rt; is_none(b"18446744073709551616 call 2 init = ok"));
     assert!(rt; is_none(b"1 call 4294967296 init = ok"));
     assert!(rt; is_none(b"01 call 2 init = ok"));
-    assert!(rt; replies(b"1 call 2 init = ok 4294967295", Reply::Value(4_294_967_295)));
+    assert!(rt;
+        replies(
+            b"1 call 2 init = ok 4294967295",
+            Reply::Value(4_294_967_295)
+        )
+    );
     assert!(rt; is_none(b"1 call 2 init = ok 4294967296"));
     let totals = RouteTotals {
         packets: 0,
         bytes: 18_446_744_073_709_551_615,
         wrong: 1,
     };
-    assert!(rt; replies(b"1 call 2 init = sg 0 18446744073709551615 1", Reply::Sg(totals)));
+    assert!(rt;
+        replies(
+            b"1 call 2 init = sg 0 18446744073709551615 1",
+            Reply::Sg(totals)
+        )
+    );
     assert!(rt; is_none(b"1 call 2 init = sg 0 18446744073709551616 1"));
     assert!(rt; is_none(b"1 call 2 init = sg 0 1"));
     let totals = VifTotals {
@@ -219,9 +277,15 @@ fn outcomes_and_entries(rt: HostRuntime) {
     assert!(rt; is_recv(b"4 recv 1 none", None));
     assert!(rt; is_none(b"4 recv 1 none 1"));
     assert!(rt; is_none(b"4 recv 1 nocache 256 1 1"));
-    assert!(rt; matches!(read_line(b"1 settle 2 18446744073709551615"), Some(Line::Settle { count, .. }) if count == 18_446_744_073_709_551_615));
-    assert!(rt; matches!(read_line(b"1 settle 2 0"), Some(Line::Settle { count, .. }) if count == 0));
-    assert!(rt; matches!(read_line(b"1 tick 2 4294967295"), Some(Line::Tick { ms, .. }) if ms == 4_294_967_295));
+    assert!(rt;
+        matches!(read_line(b"1 settle 2 18446744073709551615"), Some(Line::Settle { count, .. }) if count == 18_446_744_073_709_551_615)
+    );
+    assert!(rt;
+        matches!(read_line(b"1 settle 2 0"), Some(Line::Settle { count, .. }) if count == 0)
+    );
+    assert!(rt;
+        matches!(read_line(b"1 tick 2 4294967295"), Some(Line::Tick { ms, .. }) if ms == 4_294_967_295)
+    );
     assert!(rt; is_none(b"1 tick 2 4294967296"));
     assert!(rt; matches!(read_line(b"7 phase"), Some(Line::Phase { number }) if number == 7));
     assert!(rt; is_none(b"7 phase 1"));
@@ -231,8 +295,18 @@ fn outcomes_and_entries(rt: HostRuntime) {
 #[test]
 fn records_and_released(rt: HostRuntime) {
     assert!(rt; is_record(b"- 1 2 3 4 5", record(1, 2, 3, Some(4), 32)));
-    assert!(rt; is_record(b"- 4294967295 0 4294967295 - -", record(4_294_967_295, 0, 4_294_967_295, None, 0)));
-    assert!(rt; is_record(b"- 1 2 3 0 0,1,2,3,4,5,6,7,8,9,10,11,12,13,14,15,16,17,18,19,20,21,22,23,24,25,26,27,28,29,30,31", record(1, 2, 3, Some(0), 4_294_967_295)));
+    assert!(rt;
+        is_record(
+            b"- 4294967295 0 4294967295 - -",
+            record(4_294_967_295, 0, 4_294_967_295, None, 0)
+        )
+    );
+    assert!(rt;
+        is_record(
+            b"- 1 2 3 0 0,1,2,3,4,5,6,7,8,9,10,11,12,13,14,15,16,17,18,19,20,21,22,23,24,25,26,27,28,29,30,31",
+            record(1, 2, 3, Some(0), 4_294_967_295)
+        )
+    );
     assert!(rt; is_none(b"- 1 2 3 4 5,5"));
     assert!(rt; is_none(b"- 1 2 3 4 5,4"));
     assert!(rt; is_none(b"- 1 2 3 4 32"));
@@ -253,7 +327,9 @@ fn records_and_released(rt: HostRuntime) {
             report: Report::Told,
         },
     };
-    assert!(rt; matches!(read_line(b"- 1 2 wrong 3 - told"), Some(Line::Released(r)) if r == released));
+    assert!(rt;
+        matches!(read_line(b"- 1 2 wrong 3 - told"), Some(Line::Released(r)) if r == released)
+    );
     assert!(rt; read_record(b"- 1 2 wrong 3 - told").is_none());
     assert!(rt; is_none(b"- 1 2 wrong 3 - none"));
 }
@@ -271,11 +347,17 @@ fn tail_lines(rt: HostRuntime) {
             wrong: 3,
         },
     };
-    assert!(rt; matches!(read_line(b"route 4294967295 10.0.0.1 224.0.0.1 255 1 2 3"), Some(Line::Route(r)) if r == route));
+    assert!(rt;
+        matches!(read_line(b"route 4294967295 10.0.0.1 224.0.0.1 255 1 2 3"), Some(Line::Route(r)) if r == route)
+    );
     assert!(rt; is_none(b"route 1 10.0.0.1 224.0.0.1 256 1 2 3"));
     assert!(rt; is_none(b"route 1 10.0.0.1 224.0.0.01 255 1 2 3"));
-    assert!(rt; matches!(read_line(b"vif 255 pimreg 1 2 3 4"), Some(Line::Vif(v)) if v.vif == 255 && v.name.as_str() == "pimreg" && v.totals.bytes_out == 4));
-    assert!(rt; matches!(read_line(b"vif 0 a23456789012345 1 2 3 4"), Some(Line::Vif(v)) if v.name.as_str() == "a23456789012345"));
+    assert!(rt;
+        matches!(read_line(b"vif 255 pimreg 1 2 3 4"), Some(Line::Vif(v)) if v.vif == 255 && v.name.as_str() == "pimreg" && v.totals.bytes_out == 4)
+    );
+    assert!(rt;
+        matches!(read_line(b"vif 0 a23456789012345 1 2 3 4"), Some(Line::Vif(v)) if v.name.as_str() == "a23456789012345")
+    );
     assert!(rt; is_none(b"vif 0 a234567890123456 1 2 3 4"));
     assert!(rt; is_none(b"vif 256 eth0 1 2 3 4"));
     assert!(rt; is_none(b"vif 0 0eth 1 2 3 4"));
@@ -284,10 +366,18 @@ fn tail_lines(rt: HostRuntime) {
         index: 2,
         fate: Fate::Expired(4_294_967_295),
     };
-    assert!(rt; matches!(read_line(b"fate 1 2 expired 4294967295"), Some(Line::Fate(f)) if f == fate));
-    assert!(rt; matches!(read_line(b"fate 1 2 waiting"), Some(Line::Fate(f)) if f.fate == Fate::Waiting));
-    assert!(rt; matches!(read_line(b"fate 1 2 released 1"), Some(Line::Fate(f)) if f.fate == Fate::Released(1)));
-    assert!(rt; matches!(read_line(b"fate 1 2 flushed 1"), Some(Line::Fate(f)) if f.fate == Fate::Flushed(1)));
+    assert!(rt;
+        matches!(read_line(b"fate 1 2 expired 4294967295"), Some(Line::Fate(f)) if f == fate)
+    );
+    assert!(rt;
+        matches!(read_line(b"fate 1 2 waiting"), Some(Line::Fate(f)) if f.fate == Fate::Waiting)
+    );
+    assert!(rt;
+        matches!(read_line(b"fate 1 2 released 1"), Some(Line::Fate(f)) if f.fate == Fate::Released(1))
+    );
+    assert!(rt;
+        matches!(read_line(b"fate 1 2 flushed 1"), Some(Line::Fate(f)) if f.fate == Fate::Flushed(1))
+    );
     assert!(rt; is_none(b"fate 1 2 waiting 1"));
     assert!(rt; is_none(b"fate 1 2 flushed 4294967296"));
 }

@@ -1,4 +1,4 @@
-use Rattle.std.proofs.Common.{◌≡◌, ◌≤◌, ◌-◌, ◌++◌, length, take}
+use Rattle.std.proofs.Common.{◌≡◌, ◌-◌, ◌++◌, length, take}
 use Rattle.mr_lines.specs.Bytes.{behind}
 use Rattle.mr_lines.specs.Words.{ttls_from}
 use Rattle.mr_lines.proofs.items.ttls_at.Given as goal

@@ -33,7 +33,7 @@ vifs-preserved c = record {
   same =
       ap (λ m. vifs_in (c.in-Some.vif + 1) m c.past-left.result.now) c.with_vif-mask.ensures.value
       ∙ sym (vif_next c.vifs.least c.vifs.mask c.in-Some.vif c.vifs.left.now c.past-left.result.now c.in-Some.ensures.number.0 (omega (arith, c.if-vif-least.false))
-        (comma_first c.vifs.left.now c.in-Some.after.now c.past-left.result.now c.in-Some.ensures.number.1 (sym c.is_comma.ensures ∙ c.if-not-is_comma.false) c.past-left.ensures))
+      (comma_first c.vifs.left.now c.in-Some.after.now c.past-left.result.now c.in-Some.ensures.number.1 (sym c.is_comma.ensures ∙ c.if-not-is_comma.false) c.past-left.ensures))
       ∙ c.vifs.invariant.same;
   below = c.with_vif-mask.ensures.below;
   few = omega (arith, c.in-Some.ensures.within);
