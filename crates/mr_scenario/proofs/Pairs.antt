@@ -71,7 +71,7 @@ pub pair_none : (done : List ℕ) (ps : List (List ℕ)) (i : ℕ) (d : List ℕ
     option_map (λ bs. done ++ bs) (pairs_of (drop i ps)) ≡ all → all ≡ None
 pair_none done ps i d all within reads same =
     let none : pairs_of (drop i ps) ≡ None =
-        rw (drop-cons ps i d within) (byte_none (hex_digit (get_or (get_or ps i d) 0 0)) (hex_digit (get_or (get_or ps i d) 1 0)) (pairs_of (drop (suc i) ps)) reads) in
+    rw (drop-cons ps i d within) (byte_none (hex_digit (get_or (get_or ps i d) 0 0)) (hex_digit (get_or (get_or ps i d) 1 0)) (pairs_of (drop (suc i) ps)) reads) in
     sym same ∙ ap (option_map (λ bs. done ++ bs)) none
 
 -- No pair is left.

@@ -16,6 +16,10 @@ use Rattle.mr_scenario.specs.declared.stop.Kind.TheVariants as kind
 use Rattle.mr_words.specs.Binds.{◌>>=◌}
 use Rattle.mr_words.specs.Names.{is_file}
 
+-- the phase whose lines are read; an empty one where there is none
+abbrev pub phase_of : Draft → Phase
+phase_of d = unwrap_or d.current (record { line = 0; items = []; script = [] })
+
 -- the number of lanes: 1 where no line says it
 abbrev pub lanes_of : Draft → ℕ
 lanes_of d = unwrap_or d.lanes 1

@@ -14,6 +14,8 @@ mod reading;
 mod requests;
 mod scenario;
 mod stop;
+#[cfg(test)]
+mod tests;
 
 pub use boxed_name::BoxedName;
 pub use laws::spelled_fits;

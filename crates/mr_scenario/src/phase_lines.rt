@@ -1,8 +1,8 @@
 //! The line `phase`, and the lines of a phase: each by the words behind its first one.
 
-ghost use Rattle.std.specs.Prelude.{◌≡◌, ◌<◌, ◌≤◌, ◌-◌, None, length, OnOk};
+ghost use Rattle.std.specs.Prelude.{◌≡◌, ◌<◌, ◌≤◌, ◌-◌, None, true, is_some, length, OnOk};
 ghost use Rattle.mr_scenario.specs.Answers.{Steps};
-ghost use Rattle.mr_scenario.specs.PhaseLines.{lanes_of, phases_so_far, phase_line, with_item, with_packet, device_word, packet_item, trace_item, item_by_word, lane_line, is_smc, is_smc_at, daemon_word, who_of, with_script, script_line};
+ghost use Rattle.mr_scenario.specs.PhaseLines.{lanes_of, phases_so_far, phase_line, phase_of, with_item, with_packet, device_word, packet_item, trace_item, item_by_word, lane_line, is_smc, is_smc_at, daemon_word, who_of, with_script, script_line};
 ghost use Rattle.mr_scenario.specs.Forms.{number_in};
 ghost use Rattle.mr_scenario.specs.Kinds.{word_as};
 ghost use Rattle.mr_scenario.specs.declared.stop.Kind.TheVariants as kind;
@@ -66,24 +66,26 @@ fn device_word(draft: &Draft, word: &[u8]) -> Result<u32, Kind>
 }
 
 /// One more packet of a phase, which is the one whose lines are read.
-fn push_packet(draft: &mut Draft, phase: Phase, item: Item) -> Result<(), AllocError>
-    requires { draft.old.sent < 1048576 }
-    ensures { OnOk result (draft.new ≡ with_packet draft.old phase item) }
+fn push_packet(draft: &mut Draft, item: Item) -> Result<(), AllocError>
+    requires room { draft.old.sent < 1048576 }
+    requires phase { is_some draft.old.current ≡ true }
+    ensures { OnOk result (draft.new ≡ with_packet draft.old (phase_of draft.old) item) }
 {
-    let mut phase = phase;
-    phase.items.0.push(item)?;
-    draft.sent += 1;
-    draft.current = Some(phase);
+    if let Some(phase) = &mut draft.current {
+        phase.items.0.push(item)?;
+        draft.sent += 1;
+    }
     Ok(())
 }
 
 /// One more item of a phase, which is the one whose lines are read.
-fn push_item(draft: &mut Draft, phase: Phase, item: Item) -> Result<(), AllocError>
-    ensures { OnOk result (draft.new ≡ with_item draft.old phase item) }
+fn push_item(draft: &mut Draft, item: Item) -> Result<(), AllocError>
+    requires { is_some draft.old.current ≡ true }
+    ensures { OnOk result (draft.new ≡ with_item draft.old (phase_of draft.old) item) }
 {
-    let mut phase = phase;
-    phase.items.0.push(item)?;
-    draft.current = Some(phase);
+    if let Some(phase) = &mut draft.current {
+        phase.items.0.push(item)?;
+    }
     Ok(())
 }
 
@@ -92,13 +94,13 @@ fn packet_item(
     alloc: Global,
     line: u32,
     draft: &mut Draft,
-    phase: Phase,
     lane: u32,
     dev: &[u8],
     digits: &[u8],
 ) -> Result<(), Stop>
-    requires { length draft.old.devices ≤ 64 }
-    ensures { Steps result draft.new (packet_item line draft.old phase lane dev.now digits.now) }
+    requires devices { length draft.old.devices ≤ 64 }
+    requires phase { is_some draft.old.current ≡ true }
+    ensures { Steps result draft.new (packet_item line draft.old (phase_of draft.old) lane dev.now digits.now) }
 {
     let dev = device_word(draft, dev)?;
     let bytes = hex_word(alloc, digits)?;
@@ -111,7 +113,7 @@ fn packet_item(
         dev,
         given: Given::Bytes(bytes),
     };
-    push_packet(draft, phase, item)?;
+    push_packet(draft, item)?;
     Ok(())
 }
 
@@ -120,13 +122,13 @@ fn trace_item(
     alloc: Global,
     line: u32,
     draft: &mut Draft,
-    phase: Phase,
     lane: u32,
     dev: &[u8],
     file: &[u8],
 ) -> Result<(), Stop>
-    requires { length draft.old.devices ≤ 64 }
-    ensures { Steps result draft.new (trace_item line draft.old phase lane dev.now file.now) }
+    requires devices { length draft.old.devices ≤ 64 }
+    requires phase { is_some draft.old.current ≡ true }
+    ensures { Steps result draft.new (trace_item line draft.old (phase_of draft.old) lane dev.now file.now) }
 {
     let dev = device_word(draft, dev)?;
     if !is_file(file) {
@@ -139,7 +141,7 @@ fn trace_item(
         dev,
         given: Given::Trace(name),
     };
-    push_item(draft, phase, item)?;
+    push_item(draft, item)?;
     Ok(())
 }
 
@@ -148,19 +150,19 @@ fn item_by_word(
     alloc: Global,
     line: u32,
     draft: &mut Draft,
-    phase: Phase,
     lane: u32,
     what: &[u8],
     dev: &[u8],
     given: &[u8],
 ) -> Result<(), Stop>
-    requires { length draft.old.devices ≤ 64 }
-    ensures { Steps result draft.new (item_by_word line draft.old phase lane what.now dev.now given.now) }
+    requires devices { length draft.old.devices ≤ 64 }
+    requires phase { is_some draft.old.current ≡ true }
+    ensures { Steps result draft.new (item_by_word line draft.old (phase_of draft.old) lane what.now dev.now given.now) }
 {
     if what == b"pkt".as_slice() {
-        packet_item(alloc, line, draft, phase, lane, dev, given)
+        packet_item(alloc, line, draft, lane, dev, given)
     } else if what == b"trace".as_slice() {
-        trace_item(alloc, line, draft, phase, lane, dev, given)
+        trace_item(alloc, line, draft, lane, dev, given)
     } else {
         Err(Stop::Bad(Kind::Word))
     }
@@ -182,15 +184,15 @@ pub fn lane_line(
     alloc: Global,
     line: u32,
     draft: &mut Draft,
-    phase: Phase,
     words: &[u8],
 ) -> Result<(), Stop>
-    requires { length draft.old.devices ≤ 64 }
-    ensures { Steps result draft.new (lane_line line draft.old phase (words_of words.now)) }
+    requires devices { length draft.old.devices ≤ 64 }
+    requires phase { is_some draft.old.current ≡ true }
+    ensures { Steps result draft.new (lane_line line draft.old (phase_of draft.old) (words_of words.now)) }
 {
     let (lane, what, dev, given) = four_words(words).ok_or(Kind::Word)?;
     let lane = lane_word(draft, lane)?;
-    item_by_word(alloc, line, draft, phase, lane, what, dev, given)
+    item_by_word(alloc, line, draft, lane, what, dev, given)
 }
 
 fn is_smc(kind: &DaemonKind) -> bool
@@ -236,12 +238,13 @@ fn who_of(draft: &Draft, word: &[u8]) -> Result<bool, Kind>
 }
 
 /// One more script line of a phase, which is the one whose lines are read.
-fn push_script(draft: &mut Draft, phase: Phase, entry: ScriptLine) -> Result<(), AllocError>
-    ensures { OnOk result (draft.new ≡ with_script draft.old phase entry) }
+fn push_script(draft: &mut Draft, entry: ScriptLine) -> Result<(), AllocError>
+    requires { is_some draft.old.current ≡ true }
+    ensures { OnOk result (draft.new ≡ with_script draft.old (phase_of draft.old) entry) }
 {
-    let mut phase = phase;
-    phase.script.0.push(entry)?;
-    draft.current = Some(phase);
+    if let Some(phase) = &mut draft.current {
+        phase.script.0.push(entry)?;
+    }
     Ok(())
 }
 
@@ -250,11 +253,11 @@ pub fn script_line(
     alloc: Global,
     line: u32,
     draft: &mut Draft,
-    phase: Phase,
     words: &[u8],
 ) -> Result<(), Stop>
-    requires { length draft.old.daemons ≤ 8 }
-    ensures { Steps result draft.new (script_line line draft.old phase (words_of words.now)) }
+    requires daemons { length draft.old.daemons ≤ 8 }
+    requires phase { is_some draft.old.current ≡ true }
+    ensures { Steps result draft.new (script_line line draft.old (phase_of draft.old) (words_of words.now)) }
 {
     let (number, op, rest) = led_by_two(words).ok_or(Kind::Word)?;
     let who = who_of(draft, number);
@@ -265,6 +268,6 @@ pub fn script_line(
         daemon,
         script,
     };
-    push_script(draft, phase, entry)?;
+    push_script(draft, entry)?;
     Ok(())
 }

@@ -1,16 +1,16 @@
 //! A scenario is read from its bytes.
 
-ghost use Rattle.std.specs.Prelude.{◌≡◌, ◌≤◌, None, Some, length, map, replicate, IfOk};
+ghost use Rattle.std.specs.Prelude.{◌≡◌, ◌≤◌, None, true, is_some, length, map, replicate, IfOk};
 ghost use Rattle.mr_scenario.specs.Answers.{Steps, Gives};
 ghost use Rattle.mr_scenario.specs.Fits.{Fits};
-ghost use Rattle.mr_scenario.specs.PhaseLines.{phases_so_far};
+ghost use Rattle.mr_scenario.specs.PhaseLines.{phases_so_far, phase_of};
 ghost use Rattle.mr_scenario.specs.Spelled.{head_line, phase_part, line_in, line_of, draft_from, empty_draft, is_admin_kind, address_only, limits_of, whole, spelled};
 ghost use Rattle.mr_words.specs.Words.{lines_of, words_of};
 
 use crate::draft::Draft;
 use crate::head_lines::{daemon_line, device_line, header_line, lanes_line, limit_line, smc_line};
 use crate::phase_lines::{close_phase, lane_line, lanes_of, phase_line, script_line};
-use crate::scenario::{DaemonKind, Named, Phase, Scenario};
+use crate::scenario::{DaemonKind, Named, Scenario};
 use crate::stop::{Kind, ScenarioError, Stop};
 use mr_base::{Device, List};
 use mr_model::Limits;
@@ -49,20 +49,19 @@ fn phase_part(
     alloc: Global,
     line: u32,
     draft: &mut Draft,
-    phase: Phase,
     word: &[u8],
     words: &[u8],
 ) -> Result<(), Stop>
     requires devices { length draft.old.devices ≤ 64 }
     requires daemons { length draft.old.daemons ≤ 8 }
-    ensures { Steps result draft.new (phase_part line (record draft.old { current = Some phase }) phase word.now (words_of words.now)) }
+    requires phase { is_some draft.old.current ≡ true }
+    ensures { Steps result draft.new (phase_part line draft.old (phase_of draft.old) word.now (words_of words.now)) }
 {
     if word == b"lane".as_slice() {
-        lane_line(alloc, line, draft, phase, words)
+        lane_line(alloc, line, draft, words)
     } else if word == b"daemon".as_slice() {
-        script_line(alloc, line, draft, phase, words)
+        script_line(alloc, line, draft, words)
     } else if word == b"phase".as_slice() {
-        draft.current = Some(phase);
         phase_line(alloc, line, draft, words)
     } else {
         Err(Stop::Bad(Kind::Word))
@@ -81,9 +80,10 @@ fn line_in(
     requires daemons { length draft.old.daemons ≤ 8 }
     ensures { Steps result draft.new (line_in line draft.old draft.old.current word.now (words_of words.now)) }
 {
-    match draft.current.take() {
-        None => head_line(alloc, line, draft, word, words),
-        Some(phase) => phase_part(alloc, line, draft, phase, word, words),
+    if draft.current.is_some() {
+        phase_part(alloc, line, draft, word, words)
+    } else {
+        head_line(alloc, line, draft, word, words)
     }
 }
 

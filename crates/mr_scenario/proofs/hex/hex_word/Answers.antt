@@ -10,14 +10,14 @@ pub returns-in_default : goal.returns-in_default
 returns-in_default c =
     rw c.bad_hex-in_default.ensures
     (hex_refused c.args.word.now
-        (sym (pairs_are c.args.word.now c.as_chunks.result.0.now c.if-word-ne0.false c.as_chunks.ensures.front)
-            ∙ pair_none c.loop-pair.bytes.items c.as_chunks.result.0.now c.loop-pair.pair-index _ _ c.loop-pair-test.true (sym c.byte_of.ensures ∙ c.in_default.is) c.loop-pair.invariant.same))
+    (sym (pairs_are c.args.word.now c.as_chunks.result.0.now c.if-word-ne0.false c.as_chunks.ensures.front)
+    ∙ pair_none c.loop-pair.bytes.items c.as_chunks.result.0.now c.loop-pair.pair-index _ _ c.loop-pair-test.true (sym c.byte_of.ensures ∙ c.in_default.is) c.loop-pair.invariant.same))
 
 pub loop-pair-preserved : goal.loop-pair-preserved
 loop-pair-preserved c = record {
   same = rw c.push_reserved.ensures.items
       (pair_first c.loop-pair.bytes.items c.as_chunks.result.0.now c.loop-pair.pair-index _ c.in-Some.byte c.loop-pair-test.true (sym c.byte_of.ensures ∙ c.in-Some.is)
-          ∙ c.loop-pair.invariant.same);
+      ∙ c.loop-pair.invariant.same);
   room = search rules;
 }
 
@@ -25,4 +25,4 @@ pub returns : goal.returns
 returns c =
     hex_read c.args.word.now c.loop-pair.bytes.items (search rules)
     (sym (pairs_are c.args.word.now c.as_chunks.result.0.now c.if-word-ne0.false c.as_chunks.ensures.front)
-        ∙ pairs_done c.loop-pair.bytes.items c.as_chunks.result.0.now c.loop-pair.pair-index _ c.loop-pair-test.false c.loop-pair.invariant.same)
+    ∙ pairs_done c.loop-pair.bytes.items c.as_chunks.result.0.now c.loop-pair.pair-index _ c.loop-pair-test.false c.loop-pair.invariant.same)
