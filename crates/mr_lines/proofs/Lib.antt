@@ -1,5 +1,3 @@
-pub mod WritingLemmas
-pub mod RowLemmas
 pub mod FieldLaws
 pub mod PartLaws
 pub mod NumberLaws

@@ -4,6 +4,5 @@ pub mod Fit
 pub mod Fields
 pub mod Words
 pub mod Reading
-pub mod Written
 pub mod Laws
 pub mod Bytes

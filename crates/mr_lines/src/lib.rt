@@ -16,13 +16,6 @@ mod skip;
 mod tail;
 #[cfg(test)]
 mod tests;
-#[cfg(test)]
-mod tests_writing;
-mod writing;
-mod writing_calls;
-mod writing_records;
-mod writing_rows;
-mod writing_words;
 mod words;
 
 pub use laws::{line_again, line_clean, line_is_one, line_splits, line_takes, spaced_again};
@@ -30,8 +23,3 @@ pub use line::Line;
 pub use reading::{read_line, read_record};
 pub use skip::Skip;
 pub use tail::{RouteLine, Tail, VifLine};
-pub use writing::{
-    write_call, write_end, write_fate, write_first, write_phase, write_recv, write_released,
-    write_route, write_settle, write_skip, write_slow, write_tick, write_vif,
-};
-pub use writing_records::write_record;

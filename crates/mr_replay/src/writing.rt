@@ -9,8 +9,9 @@ ghost use Rattle.mr_text.specs.Text.{line_text, entry_lines, entries_lines, text
 use crate::ended::Run;
 use crate::journal::Kept;
 use mr_base::{FileName, List, Route, VifRecord};
-use mr_lines::{RouteLine, Skip, Tail, VifLine, write_end, write_first, write_slow};
+use mr_lines::{RouteLine, Skip, Tail, VifLine};
 use mr_model::{Outcome, RouteTotals, VifTotals};
+use mr_print::{write_end, write_first, write_slow};
 use mr_scenario::Named;
 use mr_text::{write_entry, write_skips, write_tail};
 use std::alloc::{AllocError, Global};

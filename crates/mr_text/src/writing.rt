@@ -5,12 +5,12 @@ ghost use Rattle.mr_lines.specs.declared.line.Line.TheVariants as line;
 ghost use Rattle.mr_text.specs.Text.{line_text, entry_lines, entries_lines, tail_lines, text};
 
 use mr_base::{DaemonNo, LaneNo, Memory};
-use mr_lines::{
-    RouteLine, Skip, Tail, VifLine, write_call, write_end, write_fate, write_first, write_phase,
-    write_record, write_recv, write_released, write_route, write_settle, write_skip, write_slow,
-    write_tick, write_vif,
-};
+use mr_lines::{RouteLine, Skip, Tail, VifLine};
 use mr_model::{Entry, FastRecord, FateLine, ReleasedId, Reply, Request};
+use mr_print::{
+    write_call, write_end, write_fate, write_first, write_phase, write_record, write_recv,
+    write_released, write_route, write_settle, write_skip, write_slow, write_tick, write_vif,
+};
 use std::alloc::{AllocError, Global};
 
 /// The lines of the items that are no packets.

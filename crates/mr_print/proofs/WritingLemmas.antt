@@ -1,0 +1,17 @@
+-- Words one behind another.
+use Rattle.std.proofs.Common.{◌≡◌, ℕ, List, [], ◌∷◌, ◌++◌, sym, ap, ◌∙◌}
+use Rattle.std.proofs.lemmas.List.{append_assoc, append-nil}
+use Rattle.std.specs.Prelude.{flat_map}
+use Rattle.std.specs.List.{join_with_byte}
+use Rattle.mr_lines.specs.Forms.{Word}
+use Rattle.mr_print.specs.Written.{led, line_bytes}
+
+-- joined words are the first, and the others behind their bytes
+pub joined : (c : ℕ) (w : List ℕ) (ws : List (List ℕ)) → join_with_byte c (w ∷ ws) ≡ w ++ flat_map (λ v. c ∷ v) ws
+joined c w [] = sym (append-nil w)
+joined c w (v ∷ ws) = ap (λ x. w ++ c ∷ x) (joined c v ws)
+
+-- a word, words behind a space each, and a line feed are a line
+pub line_put : (o x y z : List ℕ) (w : Word) (ws : List Word) → x ≡ o ++ w → y ≡ x ++ led ws → z ≡ y ++ 10 ∷ [] → z ≡ o ++ line_bytes (w ∷ ws)
+line_put o x y z w ws e f g =
+    rw (g, f, e) (append_assoc (o ++ w) (led ws) (10 ∷ []) ∙ append_assoc o w (led ws ++ 10 ∷ []) ∙ ap (λ v. o ++ v) (sym (ap (λ v. v ++ 10 ∷ []) (joined 32 w ws) ∙ append_assoc w (led ws) (10 ∷ []))))
