@@ -1,6 +1,6 @@
 -- The lines before the first that may not come can be gone on with to the end of a text.
-use Rattle.std.proofs.Common.{◌≡◌, ℕ, zero, suc, ◌+◌, ◌-◌, ◌==◌, ◌&&◌, ◌≤◌, ◌<◌, Bool, true, false, not, Option, Some, None, Result, Ok, Err, List, [], ◌∷◌, ◌++◌, length, refl, sym, ap, ◌∙◌, subst, arith, lit≤, append-nil, append_assoc, length-append, ◌⊎◌, inl, inr}
-use Rattle.std.specs.Prelude.{flat_map, nat_lt, option_and_then, take}
+use Rattle.std.proofs.Common.{◌≡◌, ℕ, zero, suc, ◌+◌, ◌-◌, ◌&&◌, ◌≤◌, ◌<◌, Bool, true, false, not, Some, None, Err, List, [], ◌∷◌, ◌++◌, refl, sym, ap, ◌∙◌, subst, arith, lit≤, append-nil, append_assoc, inl, inr}
+use Rattle.std.specs.Prelude.{flat_map, nat_lt, take}
 use Rattle.std.specs.List.{AllByRecursion}
 use Rattle.std.proofs.lemmas.List.Concat.{flat_map-append}
 use Rattle.mr_base.specs.declared.numbers.LaneNo.{LaneNo}
@@ -19,8 +19,8 @@ use Rattle.mr_text.specs.declared.reading_state.Current.{Current}
 use Rattle.mr_text.specs.declared.reading_state.Current.TheVariants as current
 use Rattle.mr_text.specs.declared.reading_state.State.{State}
 use Rattle.mr_text.specs.Laws.{LinesBegin}
-use Rattle.mr_text.specs.Text.{line_text, text_lines, text}
-use Rattle.mr_text.specs.Walk.{when, is_empty, is_inside, first_state, with_entry, closed, closed_current, with_end, recorded, step, line_step, next_line, walk, parts, walked}
+use Rattle.mr_text.specs.Text.{line_text, text}
+use Rattle.mr_text.specs.Walk.{when, is_empty, is_inside, first_state, with_entry, closed, closed_current, with_end, recorded, step, line_step, next_line, walk, parts}
 use Rattle.mr_text.specs.Whole.{PartsFit, first_bytes, told}
 use Rattle.mr_text.proofs.Leading.{runs, runs_append, runs_on, runs_sound}
 use Rattle.mr_text.proofs.Parting.{then_some, then_goes}

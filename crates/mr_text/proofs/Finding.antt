@@ -1,8 +1,7 @@
 -- What is read fits and is the text that was read.
-use Rattle.std.proofs.Common.{◌≡◌, ◌∙◌, sym, ap, ℕ, Option, Some, None, Result, Ok, Err, List, [], ◌∷◌, IfOk}
+use Rattle.std.proofs.Common.{◌≡◌, ◌∙◌, sym, ap, ℕ, Result, Ok, Err, List, [], ◌∷◌, IfOk}
 use Rattle.mr_text.specs.declared.history_text.HistoryText.{HistoryText}
 use Rattle.mr_text.specs.declared.history_text.TextError.{TextError}
-use Rattle.mr_text.specs.declared.history_text.TextError.TheVariants as error
 use Rattle.mr_text.specs.declared.reading_state.State.{State}
 use Rattle.mr_text.specs.Answers.{Gives}
 use Rattle.mr_text.specs.Laws.{ReadIsText}

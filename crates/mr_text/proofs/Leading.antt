@@ -1,11 +1,9 @@
 -- The text of parts that fit is read: list by list, its lines lead to a state with these parts.
-use Rattle.std.proofs.Common.{◌≡◌, ℕ, zero, suc, ◌+◌, ◌-◌, ◌==◌, ◌&&◌, ◌≤◌, ◌<◌, Bool, true, false, Option, Some, None, List, [], ◌∷◌, ◌++◌, length, map, refl, sym, ap, ◌∙◌, subst, arith, append-nil, append_assoc, length-append}
+use Rattle.std.proofs.Common.{◌≡◌, ℕ, ◌+◌, ◌-◌, ◌==◌, ◌≤◌, true, false, Option, Some, List, [], ◌∷◌, ◌++◌, length, map, refl, sym, ap, ◌∙◌, subst, arith, append-nil, append_assoc, length-append}
 use Rattle.std.specs.Prelude.{nat_lt, option_and_then}
 use Rattle.std.specs.List.{AllByRecursion}
-use Rattle.std.proofs.Math.Seq.{append_snoc}
 use Rattle.mr_base.specs.declared.numbers.DaemonNo.{DaemonNo}
 use Rattle.mr_base.specs.declared.numbers.LaneNo.{LaneNo}
-use Rattle.mr_lines.specs.Fit.{no_flow}
 use Rattle.mr_lines.specs.declared.line.Line.{Line}
 use Rattle.mr_lines.specs.declared.line.Line.TheVariants as line
 use Rattle.mr_lines.specs.declared.skip.Skip.{Skip}
@@ -24,8 +22,8 @@ use Rattle.mr_text.specs.declared.reading_state.Current.TheVariants as current
 use Rattle.mr_text.specs.declared.reading_state.State.{State}
 use Rattle.mr_text.specs.Orders.{skip_follows, route_follows, vif_follows}
 use Rattle.mr_text.specs.Text.{entry_lines, entries_lines, tail_lines, text_lines}
-use Rattle.mr_text.specs.Walk.{when, first_state, closed, is_next, added_in, added, opened_in, opened, with_line, with_open, with_route, with_vif, with_fate, with_end, step}
-use Rattle.mr_text.specs.Whole.{Rising, PartsFit, EntryFits, told}
+use Rattle.mr_text.specs.Walk.{when, first_state, closed, added_in, added, opened_in, opened, with_route, with_vif, with_fate, with_end, step}
+use Rattle.mr_text.specs.Whole.{Rising, PartsFit, EntryFits}
 use Rattle.mr_text.proofs.Parting.{then_some, then_goes}
 use Rattle.mr_text.proofs.Telling.{Sound, Takes, next_of, step_told}
 

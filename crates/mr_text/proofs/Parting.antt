@@ -1,6 +1,6 @@
 -- Options, tests and lists as the walk over a text takes them apart.
-use Rattle.std.proofs.Common.{◌≡◌, ℕ, zero, suc, ◌+◌, ◌==◌, ◌≤◌, ◌<◌, Bool, true, false, Option, Some, None, Result, Ok, Err, List, [], ◌∷◌, ◌++◌, length, map, refl, sym, ap, ◌∙◌, arith, add-one, add-zero, append-nil, append_assoc, length-append}
-use Rattle.std.specs.Prelude.{min, option_and_then, flat_map}
+use Rattle.std.proofs.Common.{◌≡◌, ℕ, suc, ◌+◌, ◌==◌, Bool, true, false, Option, Some, None, List, [], ◌∷◌, ◌++◌, length, refl, sym, ap, ◌∙◌, arith, add-zero, append-nil, append_assoc, length-append}
+use Rattle.std.specs.Prelude.{option_and_then}
 use Rattle.std.specs.List.{AllByRecursion}
 use Rattle.mr_model.specs.declared.entry.Entry.{Entry}
 use Rattle.mr_model.specs.declared.entry.Entry.TheVariants as entry
@@ -9,7 +9,6 @@ use Rattle.std.proofs.lemmas.List.{length-map}
 use Rattle.mr_text.specs.Text.{entry_lines, entries_lines}
 use Rattle.mr_text.specs.Walk.{when, is_empty, next_line}
 use Rattle.mr_text.specs.Whole.{Rising, capped, line_count, first_lines_from}
-use Rattle.mr_words.specs.Binds.{◌>>=◌}
 
 pub when_some : {A : Type 0} (b : Bool) (x t : A) → when b (Some x) ≡ Some t → (b ≡ true) × (x ≡ t)
 when_some true x t e = (refl, cc e)

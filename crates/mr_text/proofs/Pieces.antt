@@ -1,7 +1,7 @@
 -- The text of parts that fit is walked to its end, and begins with no line outside the grammar.
-use Rattle.std.proofs.Common.{◌≡◌, ℕ, zero, suc, ◌+◌, ◌==◌, ◌&&◌, ◌≤◌, ◌<◌, Bool, true, false, not, Option, Some, None, Result, Ok, Err, List, [], ◌∷◌, ◌++◌, length, map, refl, sym, ap, ◌∙◌, subst, arith, lit≤, append-nil, append_assoc, length-append, ◌⊎◌, inl, inr}
-use Rattle.std.specs.Prelude.{if◌then◌else◌, flat_map, option_and_then, min, take}
-use Rattle.std.specs.List.{AllByRecursion, list_all, join_with_byte}
+use Rattle.std.proofs.Common.{◌≡◌, ℕ, zero, suc, ◌+◌, ◌==◌, ◌&&◌, ◌≤◌, ◌<◌, Bool, true, false, not, Option, Some, None, Result, Ok, Err, List, [], ◌∷◌, ◌++◌, length, map, refl, sym, ap, ◌∙◌, arith, lit≤, append-nil, append_assoc, length-append, ◌⊎◌, inl, inr}
+use Rattle.std.specs.Prelude.{if◌then◌else◌, flat_map, option_and_then, take}
+use Rattle.std.specs.List.{AllByRecursion, join_with_byte}
 use Rattle.std.proofs.lemmas.Bool.{and_parts}
 use Rattle.mr_lines.specs.Fit.{LineFits}
 use Rattle.mr_lines.specs.Forms.{spaced}
@@ -16,13 +16,13 @@ use Rattle.mr_text.specs.declared.history_text.HistoryText.{HistoryText}
 use Rattle.mr_text.specs.declared.reading_state.State.{State}
 use Rattle.mr_text.specs.Laws.{TextIsRead, OneText, NoneBegins, FirstLines}
 use Rattle.mr_text.specs.Text.{line_text, text_lines, text}
-use Rattle.mr_text.specs.Walk.{first_state, is_empty, step, line_step, next_line, last_line, line_gives, walk, parts, parts_result, walked}
-use Rattle.mr_text.specs.Whole.{PartsFit, capped, first_lines, first_bytes, told}
+use Rattle.mr_text.specs.Walk.{first_state, is_empty, step, line_step, next_line, line_gives, walk, parts_result, walked}
+use Rattle.mr_text.specs.Whole.{first_lines, first_bytes}
 use Rattle.mr_text.proofs.Bytes.{rejoined}
 use Rattle.mr_text.proofs.Leading.{runs, runs_sound, ended, lead_all}
 use Rattle.mr_text.proofs.Parting.{then_some}
 use Rattle.mr_text.proofs.Telling.{Sound, Takes, next_of, first_sound, step_told}
-use Rattle.mr_text.proofs.Walking.{next_told, parts_ok}
+use Rattle.mr_text.proofs.Walking.{next_told}
 use Rattle.mr_words.specs.Binds.{◌>>=◌}
 use Rattle.mr_words.specs.Parts.{before, parts_behind, parts_of}
 

@@ -1,5 +1,5 @@
 -- What is read is the text of its parts: a line that is taken is the one that the state tells more.
-use Rattle.std.proofs.Common.{◌≡◌, ℕ, zero, suc, ◌+◌, ◌-◌, ◌==◌, ◌&&◌, ◌≤◌, ◌<◌, Bool, true, false, not, Option, Some, None, Result, Ok, Err, List, [], ◌∷◌, ◌++◌, length, map, refl, sym, ap, ◌∙◌, subst, arith, add-one, add-zero, zero-add, lit≤, append-nil, append_assoc, length-append}
+use Rattle.std.proofs.Common.{◌≡◌, ℕ, ◌+◌, ◌-◌, ◌==◌, ◌&&◌, ◌≤◌, ◌<◌, Bool, true, false, not, Option, Some, List, [], ◌∷◌, ◌++◌, length, map, refl, sym, ap, ◌∙◌, subst, arith, add-zero, zero-add, lit≤, append-nil, length-append}
 use Rattle.std.specs.Prelude.{nat_lt, option_and_then}
 use Rattle.std.specs.List.{AllByRecursion}
 use Rattle.std.proofs.lemmas.Bool.{and_parts}
@@ -20,8 +20,8 @@ use Rattle.mr_text.specs.declared.reading_state.Current.TheVariants as current
 use Rattle.mr_text.specs.declared.reading_state.State.{State}
 use Rattle.mr_text.specs.Orders.{skip_follows, route_follows, vif_follows}
 use Rattle.mr_text.specs.Text.{entry_lines, entries_lines}
-use Rattle.mr_text.specs.Walk.{when, is_empty, first_state, with_entry, closed_current, closed, has_no_tail, is_inside, is_next, with_open, opened_in, opened, with_line, added_in, added, released, recorded, skipped, with_route, with_vif, with_fate, with_end, step, next_line}
-use Rattle.mr_text.specs.Whole.{Rising, EntryFits, capped, line_count, first_lines_from, first_lines, current_lines, begin_line, end_line, told}
+use Rattle.mr_text.specs.Walk.{when, is_empty, first_state, with_entry, closed_current, closed, has_no_tail, is_inside, is_next, with_open, opened_in, opened, with_line, added_in, added, released, recorded, skipped, with_route, with_vif, with_fate, with_end, step}
+use Rattle.mr_text.specs.Whole.{Rising, EntryFits, capped, first_lines_from, first_lines, current_lines, begin_line, end_line, told}
 use Rattle.mr_text.proofs.Parting.{when_some, then_some, empty_nil, not_both, is_equal, front_joined, joined, push_b, push_c, push_d, push_e, push_f, push_g, push_h, shift_c, rising_push, all_push, firsts_push, entries_push}
 
 -- the entry whose lines are read, as it stands so far

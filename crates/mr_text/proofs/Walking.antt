@@ -1,5 +1,5 @@
 -- A text that is walked to its end is the text of its parts.
-use Rattle.std.proofs.Common.{◌≡◌, ℕ, zero, suc, ◌+◌, ◌==◌, ◌&&◌, ◌≤◌, ◌<◌, Bool, true, false, Option, Some, None, Result, Ok, Err, List, [], ◌∷◌, ◌++◌, length, map, refl, sym, ap, ◌∙◌, subst, arith, append-nil, append_assoc, length-append}
+use Rattle.std.proofs.Common.{◌≡◌, ℕ, ◌+◌, ◌&&◌, Bool, true, false, Option, Some, None, Result, Ok, Err, List, [], ◌∷◌, ◌++◌, length, map, refl, sym, ap, ◌∙◌, subst, append-nil, append_assoc, length-append}
 use Rattle.std.specs.Prelude.{if◌then◌else◌, flat_map}
 use Rattle.std.specs.List.{AllByRecursion, join_with_byte}
 use Rattle.std.proofs.lemmas.Bool.{and_parts}
@@ -16,11 +16,11 @@ use Rattle.mr_text.specs.declared.reading_state.Current.TheVariants as current
 use Rattle.mr_text.specs.declared.reading_state.State.{State}
 use Rattle.mr_text.specs.Laws.{ReadIsText}
 use Rattle.mr_text.specs.Text.{line_text, entries_lines, text_lines, text}
-use Rattle.mr_text.specs.Walk.{first_state, is_empty, step, line_step, next_line, last_line, line_gives, walk, parts, parts_result, walked}
+use Rattle.mr_text.specs.Walk.{first_state, is_empty, step, line_step, next_line, line_gives, walk, parts, parts_result}
 use Rattle.mr_text.specs.Whole.{PartsFit, capped, first_lines, current_lines, begin_line, end_line, told}
 use Rattle.mr_text.proofs.Bytes.{rejoined}
 use Rattle.mr_text.proofs.Parting.{then_some, empty_nil, not_both, next_capped, whole_joined}
-use Rattle.mr_text.proofs.Telling.{NoTail, OpenIn, Sound, Takes, next_of, first_sound, step_told, current_entries}
+use Rattle.mr_text.proofs.Telling.{OpenIn, Sound, Takes, next_of, first_sound, step_told, current_entries}
 use Rattle.mr_words.specs.Binds.{◌>>=◌}
 use Rattle.mr_words.specs.Parts.{before, parts_behind, parts_of}
 

@@ -1,5 +1,5 @@
 -- Skips stand by lane and then by item, no item twice; live entries by rising number, live vifs by rising index.
-use Rattle.std.specs.Prelude.{ℕ, ◌-◌, ◌==◌, ◌&&◌, ◌||◌, Bool, true, nat_lt, Option, Some, None, List, [], ◌∷◌, length, slice_get}
+use Rattle.std.specs.Prelude.{◌-◌, ◌==◌, ◌&&◌, ◌||◌, Bool, true, nat_lt, Option, Some, None, List, length, slice_get}
 use Rattle.mr_lines.specs.declared.skip.Skip.{Skip}
 use Rattle.mr_lines.specs.declared.tail.RouteLine.{RouteLine}
 use Rattle.mr_lines.specs.declared.tail.VifLine.{VifLine}

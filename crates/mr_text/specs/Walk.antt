@@ -1,7 +1,5 @@
 -- A text is read line by line: which lines may come next, and the first that is none of them.
 use Rattle.std.specs.Prelude.{ℕ, ◌+◌, ◌-◌, ◌==◌, ◌&&◌, Bool, true, false, not, min, nat_lt, if◌then◌else◌, Option, Some, None, option_and_then, Result, Ok, Err, List, [], ◌∷◌, ◌++◌, length}
-use Rattle.mr_base.specs.declared.numbers.DaemonNo.{DaemonNo}
-use Rattle.mr_base.specs.declared.numbers.LaneNo.{LaneNo}
 use Rattle.mr_lines.specs.declared.line.Line.{Line}
 use Rattle.mr_lines.specs.declared.line.Line.TheVariants as line
 use Rattle.mr_lines.specs.declared.tail.RouteLine.{RouteLine}

@@ -12,7 +12,7 @@ use Rattle.mr_text.specs.declared.reading_state.Current.{Current}
 use Rattle.mr_text.specs.declared.reading_state.Current.TheVariants as current
 use Rattle.mr_text.specs.declared.reading_state.State.{State}
 use Rattle.mr_text.specs.Orders.{skip_follows, route_follows, vif_follows}
-use Rattle.mr_text.specs.Text.{entries_lines, tail_lines, text_lines}
+use Rattle.mr_text.specs.Text.{entries_lines, text_lines}
 use Rattle.mr_words.specs.Parts.{parts_of}
 
 -- Each element may come behind those before it, the elements of `done` first: each one and its next rise.

@@ -10,7 +10,7 @@ use crate::history_text::{HistoryText, TextError};
 use crate::reading_state::{Current, State};
 use crate::steps::{record, step};
 use mr_base::List;
-use mr_lines::{read_line, read_record, Tail};
+use mr_lines::{Tail, read_line, read_record};
 use mr_words::split_part;
 use std::alloc::Global;
 
