@@ -5,7 +5,11 @@
 
 mod explain;
 mod folder;
+mod form;
+mod found;
 mod standard;
+#[cfg(test)]
+mod tests;
 
 use crate::explain::explain;
 use crate::folder::Folder;

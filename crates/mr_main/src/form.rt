@@ -1,0 +1,57 @@
+//! What a line of a scenario looks like.
+
+/// The form of a daemon's operation, with `daemon D` in front.
+fn operation(op: &str) -> &'static str {
+    match op {
+        "init" => "daemon D init",
+        "done" => "daemon D done",
+        "addvif" => "daemon D addvif I F LOCAL",
+        "delvif" => "daemon D delvif I",
+        "addmfc" => "daemon D addmfc S G P V:T ..",
+        "addproxy" => "daemon D addproxy S G P V:T ..",
+        "delmfc" => "daemon D delmfc S G P",
+        "delproxy" => "daemon D delproxy S G P",
+        "pim" => "daemon D pim N",
+        "assert" => "daemon D assert N",
+        "flush" => "daemon D flush N",
+        "table" => "daemon D table N",
+        "version" => "daemon D version",
+        "getpim" => "daemon D getpim",
+        "getassert" => "daemon D getassert",
+        "vifcnt" => "daemon D vifcnt I",
+        "sgcnt" => "daemon D sgcnt S G",
+        "raw" => "daemon D raw OPT HEX",
+        "tick" => "daemon D tick MS",
+        "recv" => "daemon D recv",
+        "smc" => "daemon D smc WORDS",
+        "start" => "daemon D start",
+        "poll" => "daemon D poll N",
+        _ =>
+            "before the phases 'daemon admin' or 'daemon plain', in a phase 'daemon D OP ..' with a known operation",
+    }
+}
+
+/// The form of a line with this first word and, of a daemon's line, this operation.
+pub fn form(first: &str, op: &str) -> &'static str {
+    match first {
+        "limit" =>
+            "before the phases 'limit entries N', 'limit unresolved N' or 'limit control N', each once",
+        "lanes" => "before the phases 'lanes N', once",
+        "device" => "before the phases 'device NAME ADDRESS'",
+        "smc" => "before the phases 'smc FILE ..'",
+        "phase" => "'phase' alone",
+        "lane" => "in a phase 'lane L pkt DEV HEX' or 'lane L trace DEV FILE'",
+        "daemon" => operation(op),
+        _ => "a line that begins with limit, lanes, device, daemon, smc, phase or lane",
+    }
+}
+
+/// What there is one too many of.
+pub fn limit(first: &str) -> &'static str {
+    match first {
+        "device" => "at most 64 devices",
+        "daemon" | "smc" => "at most 8 daemons",
+        "phase" => "at most 1000 phases",
+        _ => "at most 1048576 packets",
+    }
+}
