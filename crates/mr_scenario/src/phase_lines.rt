@@ -180,12 +180,7 @@ fn lane_word(draft: &Draft, word: &[u8]) -> Result<u32, Kind>
 
 /// `lane L pkt DEV HEX` or `lane L trace DEV FILE`
 #[inline(never)]
-pub fn lane_line(
-    alloc: Global,
-    line: u32,
-    draft: &mut Draft,
-    words: &[u8],
-) -> Result<(), Stop>
+pub fn lane_line(alloc: Global, line: u32, draft: &mut Draft, words: &[u8]) -> Result<(), Stop>
     requires devices { length draft.old.devices ≤ 64 }
     requires phase { is_some draft.old.current ≡ true }
     ensures { Steps result draft.new (lane_line line draft.old (phase_of draft.old) (words_of words.now)) }
@@ -249,12 +244,7 @@ fn push_script(draft: &mut Draft, entry: ScriptLine) -> Result<(), AllocError>
 }
 
 /// `daemon D OP ..`
-pub fn script_line(
-    alloc: Global,
-    line: u32,
-    draft: &mut Draft,
-    words: &[u8],
-) -> Result<(), Stop>
+pub fn script_line(alloc: Global, line: u32, draft: &mut Draft, words: &[u8]) -> Result<(), Stop>
     requires daemons { length draft.old.daemons ≤ 8 }
     requires phase { is_some draft.old.current ≡ true }
     ensures { Steps result draft.new (script_line line draft.old (phase_of draft.old) (words_of words.now)) }

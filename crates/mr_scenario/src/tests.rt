@@ -1,16 +1,16 @@
 use super::*;
 use crate::stop::ScenarioError;
-use mr_base::Addr;
-use mr_model::{Request, VifCtl};
 use mr_words::{next_word, number_of, past, split_line};
 use std::alloc::Global;
 use std::test::Fail;
 
 /// The head lines before a row that is a head line, which is line 7.
-const HEAD: &[u8] = b"scenario 1\ndevice eth0 10.0.0.1\ndevice eth1 10.0.1.1\ndaemon admin\ndaemon plain\nsmc a.conf b.conf\n";
+const HEAD: &[u8] =
+    b"scenario 1\ndevice eth0 10.0.0.1\ndevice eth1 10.0.1.1\ndaemon admin\ndaemon plain\nsmc a.conf b.conf\n";
 
 /// The lines before a row that is a phase line, which is line 9.
-const PHASE: &[u8] = b"scenario 1\ndevice eth0 10.0.0.1\ndevice eth1 10.0.1.1\ndaemon admin\ndaemon plain\nsmc a.conf b.conf\nlanes 2\nphase\n";
+const PHASE: &[u8] =
+    b"scenario 1\ndevice eth0 10.0.0.1\ndevice eth1 10.0.1.1\ndaemon admin\ndaemon plain\nsmc a.conf b.conf\nlanes 2\nphase\n";
 
 /// Head lines, each with the line of its mistake and the mistake's number; 0 where there is none.
 const HEAD_ROWS: &[u8] = b"\
@@ -301,9 +301,11 @@ fn mistake(alloc: Global, text: &[u8]) -> Result<(u32, u8), Fail> {
 /// The number of the first row, from 1, whose mistake is another one; 0 where there is none. A row begins with the line
 /// and the number of its mistake, and `|` stands in it for a line feed.
 fn first_wrong(alloc: Global, front: &[u8], rows: &[u8]) -> Result<u32, Fail> {
-    let mut number = 1u32;
     let mut rest = rows;
-    while !rest.is_empty() {
+    for number in 1..1000u32 {
+        if rest.is_empty() {
+            return Ok(0);
+        }
         let (row, after) = split_line(rest);
         let (line, behind) = next_word(row).ok_or("a line")?;
         let (kind, behind) = next_word(behind).ok_or("a kind")?;
@@ -315,10 +317,9 @@ fn first_wrong(alloc: Global, front: &[u8], rows: &[u8]) -> Result<u32, Fail> {
         if number_of(line, 99) != Some(at) || number_of(kind, 99) != Some(u32::from(what)) {
             return Ok(number);
         }
-        number = number.saturating_add(1);
         rest = after;
     }
-    Ok(0)
+    Err(Fail::from("too many rows"))
 }
 
 #[test]
@@ -329,98 +330,95 @@ fn mistakes(rt: HostRuntime) -> Result<(), Fail> {
     Ok(())
 }
 
-/// The scenario that a text spells.
-fn scenario_of(alloc: Global, text: &[u8]) -> Result<Scenario, Fail> {
-    Ok(read(alloc, text).ok().ok_or("a scenario")?)
-}
-
-/// The script line of a number, from 0, in the first phase.
-fn script_at(scenario: &Scenario, index: usize) -> Result<&ScriptLine, Fail> {
-    let phase = scenario.phases.0.as_slice().get(0).ok_or("a phase")?;
-    Ok(phase.script.0.as_slice().get(index).ok_or("a script line")?)
+/// The limits that a text gives, as a debug text.
+fn limits_shown(alloc: Global, text: &[u8]) -> Result<String, Fail> {
+    let scenario = read(alloc, text).ok().ok_or("a scenario")?;
+    Ok(format!(in alloc; "{} {:?}", scenario.lanes, scenario.limits)?)
 }
 
 #[test]
 fn limits_and_lanes(rt: HostRuntime) -> Result<(), Fail> {
-    let given = scenario_of(
-        rt.alloc(),
-        b"scenario 1\nlimit control 7\nlimit entries 8\nlanes 2\nlimit unresolved 9\ndaemon plain\nsmc a.conf\ndevice eth0 10.0.0.1\nphase\nphase\n",
-    )?;
-    assert_eq!(rt; (given.limits.entries, given.limits.unresolved, given.limits.controls), (8, 9, 7));
-    assert_eq!(rt; (given.lanes, given.limits.phases), (2, 2));
-    assert_eq!(rt; given.limits.packets.0.as_slice(), [0, 0].as_slice());
-    assert_eq!(rt; given.limits.admins.0.as_slice(), [false, true].as_slice());
-    let device = given.devices.0.as_slice().get(0).ok_or("a device")?;
-    assert_eq!(rt; device.name.as_str(), "eth0");
-    assert_eq!(rt; device.addr, Addr(0x0A00_0001));
-    let bare = scenario_of(rt.alloc(), b"scenario 1")?;
-    assert_eq!(rt; (bare.limits.entries, bare.limits.unresolved, bare.limits.controls), (1024, 10, 65_536));
-    assert_eq!(rt; (bare.lanes, bare.limits.phases), (1, 0));
-    assert_eq!(rt; bare.limits.packets.0.as_slice(), [0].as_slice());
+    let given =
+        b"scenario 1\nlimit control 7\nlimit entries 8\nlanes 2\nlimit unresolved 9\ndaemon plain\nsmc a.conf\ndevice eth0 10.0.0.1\nphase\nphase\n";
+    assert_eq!(rt;
+        limits_shown(rt.alloc(), given)?.as_str(),
+        "2 Limits { entries: 8, unresolved: 9, controls: 7, phases: 2, packets: List([0, 0]), admins: List([false, true]), devices: List([Device { addr: Addr(167772161) }]) }"
+    );
+    assert_eq!(rt;
+        limits_shown(rt.alloc(), b"scenario 1")?.as_str(),
+        "1 Limits { entries: 1024, unresolved: 10, controls: 65536, phases: 0, packets: List([0]), admins: List([]), devices: List([]) }"
+    );
+    Ok(())
+}
+
+/// The phases of a text that has a row behind line 9, as a debug text.
+fn phases_shown(alloc: Global, row: &[u8]) -> Result<String, Fail> {
+    let mut text = Vec::from_slice(alloc, PHASE)?;
+    text.extend_from_slice(row)?;
+    let scenario = read(alloc, text.as_slice()).ok().ok_or("a scenario")?;
+    Ok(format!(in alloc; "{:?}", scenario.phases.0.as_slice())?)
+}
+
+#[test]
+fn vifs(rt: HostRuntime) -> Result<(), Fail> {
+    assert_eq!(rt;
+        phases_shown(
+            rt.alloc(),
+            b"daemon 1 addvif 3 8 @7\n#\ndaemon 2 addvif 4 0 10.0.0.1"
+        )?
+        .as_str(),
+        "[Phase { line: 8, items: List([]), script: List([ScriptLine { line: 9, daemon: DaemonNo(1), script: Ask(AddVif(VifCtl { vif: 3, flags: 8, local: 7 })) }, ScriptLine { line: 11, daemon: DaemonNo(2), script: Ask(AddVif(VifCtl { vif: 4, flags: 0, local: 167772161 })) }]) }]"
+    );
     Ok(())
 }
 
 #[test]
-fn scripts(rt: HostRuntime) -> Result<(), Fail> {
-    let scenario = scenario_of(
-        rt.alloc(),
-        b"scenario 1\ndaemon admin\nsmc a.conf\nphase\ndaemon 1 addvif 3 8 @7\n# x\ndaemon 1 addvif 4 0 10.0.0.1\ndaemon 1 addmfc 10.0.0.9 239.1.1.1 3 31:255 1:7\ndaemon 1 raw 202 00fF\ndaemon 2 smc  add\teth0 # all\ndaemon 2 poll 64\n",
-    )?;
-    let by_number = script_at(&scenario, 0)?;
-    assert_eq!(rt; (by_number.line, by_number.daemon.0), (5, 1));
-    let Script::Ask(Request::AddVif(vif)) = &by_number.script else {
-        return Err(Fail::from("a vif"));
-    };
-    assert_eq!(rt; *vif, VifCtl { vif: 3, flags: 8, local: 7 });
-    let by_address = script_at(&scenario, 1)?;
-    assert_eq!(rt; by_address.line, 7);
-    let Script::Ask(Request::AddVif(vif)) = &by_address.script else {
-        return Err(Fail::from("a vif"));
-    };
-    assert_eq!(rt; *vif, VifCtl { vif: 4, flags: 0, local: 0x0A00_0001 });
-    let Script::Ask(Request::AddMfc(route)) = &script_at(&scenario, 2)?.script else {
-        return Err(Fail::from("a route"));
-    };
-    assert_eq!(rt; (route.src, route.dst, route.parent), (Addr(0x0A00_0009), Addr(0xEF01_0101), 3));
-    assert_eq!(rt; (route.ttls[0], route.ttls[1], route.ttls[31]), (0, 7, 255));
-    let Script::Raw { opt, bytes } = &script_at(&scenario, 3)?.script else {
-        return Err(Fail::from("raw bytes"));
-    };
-    assert_eq!(rt; *opt, 202);
-    assert_eq!(rt; bytes.0.as_slice(), [0, 255].as_slice());
-    let Script::Words(text) = &script_at(&scenario, 4)?.script else {
-        return Err(Fail::from("words"));
-    };
-    assert_eq!(rt; text.0.as_slice(), b"add eth0".as_slice());
-    assert!(rt; matches!(script_at(&scenario, 5)?.script, Script::Poll(64)));
+fn routes(rt: HostRuntime) -> Result<(), Fail> {
+    assert_eq!(rt;
+        phases_shown(
+            rt.alloc(),
+            b"daemon 1 addmfc 10.0.0.9 239.1.1.1 3 31:255 1:7"
+        )?
+        .as_str(),
+        "[Phase { line: 8, items: List([]), script: List([ScriptLine { line: 9, daemon: DaemonNo(1), script: Ask(AddMfc(MfcCtl { src: Addr(167772169), dst: Addr(4009820417), parent: 3, ttls: [0, 7, 0, 0, 0, 0, 0, 0, 0, 0, 0, 0, 0, 0, 0, 0, 0, 0, 0, 0, 0, 0, 0, 0, 0, 0, 0, 0, 0, 0, 0, 255] })) }]) }]"
+    );
+    Ok(())
+}
+
+#[test]
+fn other_lines(rt: HostRuntime) -> Result<(), Fail> {
+    assert_eq!(rt;
+        phases_shown(
+            rt.alloc(),
+            b"daemon 1 raw 202 00fF\ndaemon 3 smc  add\teth0 # all\ndaemon 3 poll 64"
+        )?
+        .as_str(),
+        "[Phase { line: 8, items: List([]), script: List([ScriptLine { line: 9, daemon: DaemonNo(1), script: Raw { opt: 202, bytes: List([0, 255]) } }, ScriptLine { line: 10, daemon: DaemonNo(3), script: Words(List([97, 100, 100, 32, 101, 116, 104, 48])) }, ScriptLine { line: 11, daemon: DaemonNo(3), script: Poll(64) }]) }]"
+    );
     Ok(())
 }
 
 #[test]
 fn items(rt: HostRuntime) -> Result<(), Fail> {
-    let scenario = scenario_of(
-        rt.alloc(),
-        b"scenario 1\ndevice a 10.0.0.1\ndevice b 10.0.0.2\nlanes 3\nphase\nlane 3 pkt b 09aF\nlane 1 trace a in.pcap",
-    )?;
-    let phase = scenario.phases.0.as_slice().get(0).ok_or("a phase")?;
-    assert_eq!(rt; (phase.line, phase.items.0.as_slice().len()), (5, 2));
-    let packet = phase.items.0.as_slice().get(0).ok_or("a packet")?;
-    assert_eq!(rt; (packet.line, packet.lane.0, packet.dev), (6, 3, 2));
-    let Given::Bytes(bytes) = &packet.given else {
-        return Err(Fail::from("bytes"));
-    };
-    assert_eq!(rt; bytes.0.as_slice(), [9, 175].as_slice());
-    let trace = phase.items.0.as_slice().get(1).ok_or("a trace")?;
-    assert_eq!(rt; (trace.line, trace.lane.0, trace.dev), (7, 1, 1));
-    let Given::Trace(name) = &trace.given else {
-        return Err(Fail::from("a file"));
-    };
-    assert_eq!(rt; name.as_str(), "in.pcap");
+    assert_eq!(rt;
+        phases_shown(
+            rt.alloc(),
+            b"lane 2 pkt eth1 09aF\nphase\nlane 1 trace eth0 in"
+        )?
+        .as_str(),
+        "[Phase { line: 8, items: List([Item { line: 9, lane: LaneNo(2), dev: 2, given: Bytes(List([9, 175])) }]), script: List([]) }, Phase { line: 10, items: List([Item { line: 11, lane: LaneNo(1), dev: 1, given: Trace(BoxedName(FileName(\"in\"))) }]), script: List([]) }]"
+    );
     Ok(())
 }
 
 /// The mistake in a text that has a part so many times between a front and a back.
-fn repeated(alloc: Global, front: &[u8], part: &[u8], times: usize, back: &[u8]) -> Result<(u32, u8), Fail> {
+fn repeated(
+    alloc: Global,
+    front: &[u8],
+    part: &[u8],
+    times: usize,
+    back: &[u8],
+) -> Result<(u32, u8), Fail> {
     let mut text = Vec::from_slice(alloc, front)?;
     for _ in 0..times {
         text.extend_from_slice(part)?;
@@ -435,8 +433,14 @@ fn most_of_all(rt: HostRuntime) -> Result<(), Fail> {
     assert_eq!(rt; repeated(rt.alloc(), front, b"0f", 65_535, b"")?, (0, 0));
     assert_eq!(rt; repeated(rt.alloc(), front, b"0f", 65_535, b"0")?, (4, 9));
     assert_eq!(rt; repeated(rt.alloc(), front, b"0f", 65_536, b"")?, (4, 9));
-    assert_eq!(rt; repeated(rt.alloc(), b"scenario 1\n", b"phase\n", 1000, b"")?, (0, 0));
-    assert_eq!(rt; repeated(rt.alloc(), b"scenario 1\n", b"phase\n", 1001, b"phase 1")?, (1002, 11));
+    assert_eq!(rt;
+        repeated(rt.alloc(), b"scenario 1\n", b"phase\n", 1000, b"")?,
+        (0, 0)
+    );
+    assert_eq!(rt;
+        repeated(rt.alloc(), b"scenario 1\n", b"phase\n", 1001, b"phase 1")?,
+        (1002, 11)
+    );
     Ok(())
 }
 

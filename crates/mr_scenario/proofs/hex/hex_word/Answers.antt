@@ -1,4 +1,4 @@
-use Rattle.std.proofs.Common.{rules, ◌≡◌, ◌/◌, ◌∙◌, sym, arith, length}
+use Rattle.std.proofs.Common.{rules, ◌/◌, ◌∙◌, sym, arith, length}
 use Rattle.mr_scenario.proofs.Pairs.{pairs_are, odd_none, pair_first, pair_none, pairs_done, hex_read, hex_refused}
 use Rattle.mr_scenario.proofs.hex.hex_word.Goals as goal
 

@@ -1,12 +1,11 @@
 use Rattle.std.proofs.Common.{◌≡◌, true, false, Option, Some, None, Result, rules}
 use Rattle.mr_scenario.specs.Answers.{Steps}
 use Rattle.mr_scenario.specs.Counts.{Word}
-use Rattle.mr_scenario.specs.PhaseLines.{phase_of}
 use Rattle.mr_scenario.specs.Spelled.{head_line, phase_part, line_in}
 use Rattle.mr_scenario.specs.declared.draft.Draft.{Draft}
 use Rattle.mr_scenario.specs.declared.scenario.Phase.{Phase}
 use Rattle.mr_scenario.specs.declared.stop.Stop.{Stop}
-use Rattle.std.specs.Prelude.{ℕ, List, [], is_some, unwrap_or}
+use Rattle.std.specs.Prelude.{ℕ, List, is_some, unwrap_or}
 use Rattle.mr_scenario.proofs.reading.line_in.Goals as goal
 
 -- a line of an open phase, and a line where there is none
