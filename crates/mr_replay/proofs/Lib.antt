@@ -20,3 +20,4 @@ pub mod Lanes
 pub mod Packeting
 pub mod TableLemmas
 pub mod Running
+pub mod EveryItem

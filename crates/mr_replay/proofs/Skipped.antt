@@ -16,7 +16,7 @@ use Rattle.mr_scenario.specs.declared.scenario.Item.{Item}
 use Rattle.mr_scenario.specs.declared.scenario.Phase.{Phase}
 
 -- items of a lane are counted one by one
-items_one : (lane : ℕ) (x : Item) (xs : List Item) → items_of lane (x ∷ xs) ≡ (if x.lane.0 == lane then 1 else 0) + items_of lane xs
+pub items_one : (lane : ℕ) (x : Item) (xs : List Item) → items_of lane (x ∷ xs) ≡ (if x.lane.0 == lane then 1 else 0) + items_of lane xs
 items_one lane x xs = sum_by-cons (λ (i : Item). if i.lane.0 == lane then 1 else 0) x xs
 
 -- what numbered items give, by a test of the first one

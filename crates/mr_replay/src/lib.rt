@@ -19,7 +19,7 @@ mod unbuilt;
 mod vif_list;
 mod writing;
 
-pub use laws::{built_fates, played_is_legal};
+pub use laws::{built_fates, every_item, played_is_legal};
 pub use loading::{Loaded, load};
 pub use status::Status;
 pub use top::run;
