@@ -3,7 +3,10 @@ use super::*;
 #[test]
 fn numbers_and_addresses(rt: HostRuntime) {
     assert_eq!(rt; number_of(b"0", 5), Some(0));
-    assert_eq!(rt; number_of(b"4294967295", 4_294_967_295), Some(4_294_967_295));
+    assert_eq!(rt;
+        number_of(b"4294967295", 4_294_967_295),
+        Some(4_294_967_295)
+    );
     assert_eq!(rt; number_of(b"4294967296", 4_294_967_295), None);
     assert_eq!(rt; number_of(b"01", 5), None);
     assert_eq!(rt; number_of(b"", 5), None);
