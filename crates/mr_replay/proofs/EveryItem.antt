@@ -1,7 +1,6 @@
 -- Every item is a packet or a skip.
 use Rattle.std.proofs.Common.{◌≡◌, ℕ, ◌+◌, ◌==◌, Bool, true, false, Option, Some, None, List, [], ◌∷◌, ◌++◌, length, refl, arith}
 use Rattle.std.proofs.lemmas.List.{length-append}
-use Rattle.std.specs.List.{AllByRecursion}
 use Rattle.std.specs.Prelude.{if◌then◌else◌, is_none, option_map, option_to_list}
 use Rattle.mr_base.specs.Heads.{cause_of}
 use Rattle.mr_base.specs.declared.head_error.HeadError.{HeadError}
@@ -13,7 +12,6 @@ use Rattle.mr_replay.specs.Unbuilt.{is_trace}
 use Rattle.mr_replay.proofs.Skipped.{items_one}
 use Rattle.mr_scenario.specs.declared.scenario.Given.{Given}
 use Rattle.mr_scenario.specs.declared.scenario.Given.TheVariants.{Bytes, Trace}
-use Rattle.mr_scenario.specs.declared.scenario.Item.{Item}
 
 by_cause : (o : Option HeadError) (p : Sent) (lane n : ℕ) → length (if is_none o then p ∷ [] else []) + length (option_to_list (option_map (skip_by lane n) o)) ≡ 1
 by_cause None p lane n = refl
@@ -31,6 +29,9 @@ by_lane false p long short s more rest k one e f = omega (arith, f)
 pub all_items : EveryItem
 all_items lane n [] a = refl
 all_items lane n (i ∷ is) a =
-    omega (arith, items_one lane i is,
-    by_lane (i.lane.0 == lane) (packet_of n i.dev i.given) (packets_from lane (n + 1) is) (packets_from lane n is) (skip_of lane n i.given) (skips_from lane (n + 1) is) (skips_from lane n is) (items_of lane is)
-    (one_item lane n i.dev i.given a.0) (all_items lane (n + 1) is a.1) (all_items lane n is a.1))
+    omega (
+      arith,
+      items_one lane i is,
+      by_lane (i.lane.0 == lane) (packet_of n i.dev i.given) (packets_from lane (n + 1) is) (packets_from lane n is) (skip_of lane n i.given) (skips_from lane (n + 1) is) (skips_from lane n is) (items_of lane is)
+          (one_item lane n i.dev i.given a.0) (all_items lane (n + 1) is a.1) (all_items lane n is a.1),
+    )

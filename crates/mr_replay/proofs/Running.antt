@@ -1,5 +1,5 @@
 -- What a loaded scenario comes to, and what the file that is asked for comes to.
-use Rattle.std.proofs.Common.{◌≡◌, ◌≤◌, ℕ, Bool, true, false, Option, Some, None, Result, Ok, Err, List, [], ◌∷◌, map, refl, sym, ap, ◌∙◌, subst}
+use Rattle.std.proofs.Common.{◌≡◌, ◌≤◌, ℕ, Bool, true, false, Option, Some, None, Result, Ok, Err, List, [], map, sym, ap, ◌∙◌}
 use Rattle.std.specs.Prelude.{if◌then◌else◌}
 use Rattle.mr_base.specs.Outside.{Files, HasFile}
 use Rattle.mr_base.specs.declared.route.Route.{Route}
@@ -11,11 +11,11 @@ use Rattle.mr_model.specs.declared.reply.RouteTotals.{RouteTotals}
 use Rattle.mr_model.specs.declared.reply.VifTotals.{VifTotals}
 use Rattle.mr_model.specs.Ending.{ending}
 use Rattle.mr_replay.specs.Built.{AllBuilt}
-use Rattle.mr_replay.specs.Endings.{file_asked, RunsTo, IsAsked, Replays, PlaysText}
+use Rattle.mr_replay.specs.Endings.{file_asked, RunsTo, Replays, PlaysText}
 use Rattle.mr_replay.specs.Loading.{run_limits, skips_of}
-use Rattle.mr_replay.specs.Outcomes.{controls_due, accepted, if_built, if_room, loaded, ran, outcome_of}
+use Rattle.mr_replay.specs.Outcomes.{controls_due, accepted, if_built, if_room, loaded, ran}
 use Rattle.mr_replay.specs.Played.{played}
-use Rattle.mr_replay.specs.Text.{route_line, vif_line, history_text}
+use Rattle.mr_replay.specs.Text.{route_line, vif_line}
 use Rattle.mr_replay.specs.Unbuilt.{first_unbuilt}
 use Rattle.mr_replay.specs.declared.status.Status.{Status}
 use Rattle.mr_scenario.specs.Fits.{Fits}

@@ -1,10 +1,9 @@
 -- Items behind others: their skips and packets stand behind those of the others.
-use Rattle.std.proofs.Common.{◌≡◌, ◌≤◌, ℕ, ◌+◌, ◌==◌, Bool, true, false, Option, Some, None, List, [], ◌∷◌, ◌++◌, ◌<◌, suc, length, drop, get_or, drop-cons, add-one, add-zero, refl, sym, ap, ◌∙◌, arith}
+use Rattle.std.proofs.Common.{◌≡◌, ◌≤◌, ℕ, ◌+◌, ◌==◌, Bool, true, false, List, [], ◌∷◌, ◌++◌, ◌<◌, length, drop, get_or, drop-cons, add-one, add-zero, refl, sym, ap, ◌∙◌, arith}
 use Rattle.std.proofs.lemmas.List.{append_assoc, length-append}
 use Rattle.std.proofs.lemmas.List.Sums.{sum_by-cons}
 use Rattle.std.specs.Prelude.{if◌then◌else◌, is_none}
 use Rattle.mr_base.specs.Heads.{cause_of}
-use Rattle.mr_lines.specs.declared.skip.Skip.{Skip}
 use Rattle.mr_replay.specs.Loading.{skip_of, skip_dev, skips_from, skip_devs_in, items_in}
 use Rattle.mr_replay.specs.Made.{Sent, packet_of, packets_from, items_of}
 use Rattle.mr_replay.specs.Skipping.{Passes, Leaves}

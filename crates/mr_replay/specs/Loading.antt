@@ -1,5 +1,5 @@
 -- What is loaded of a scenario: its skips, and how many packets each lane has.
-use Rattle.std.specs.Prelude.{ℕ, ◌+◌, ◌==◌, zero, suc, if◌then◌else◌, Option, Some, None, option_map, option_to_list, List, [], ◌∷◌, ◌++◌, length, map, flat_map}
+use Rattle.std.specs.Prelude.{ℕ, ◌+◌, ◌==◌, zero, suc, if◌then◌else◌, option_map, option_to_list, List, [], ◌∷◌, ◌++◌, length, map, flat_map}
 use Rattle.mr_base.specs.Heads.{cause_of}
 use Rattle.mr_base.specs.declared.head_error.HeadError.{HeadError}
 use Rattle.mr_base.specs.declared.head_error.HeadError.TheVariants as head_error

@@ -1,5 +1,5 @@
 -- What loading gives.
-use Rattle.std.specs.Prelude.{◌≡◌, ◌≤◌, ◌++◌, ◌∷◌, [], ℕ, Option, Result, Ok, Err, List, length, map, flat_map}
+use Rattle.std.specs.Prelude.{◌≡◌, ◌≤◌, ℕ, Option, Result, Ok, Err, List, length, map, flat_map}
 use Rattle.mr_base.specs.Outside.{Files, HasFile, LastCall, Rose}
 use Rattle.mr_replay.specs.Faults.{failed_read}
 use Rattle.mr_replay.specs.Loading.{one_to, run_limits, skips_from, skip_devs_in, skips_of, skip_devs_of, items_in}

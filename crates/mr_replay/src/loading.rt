@@ -66,11 +66,7 @@ fn pass_lane(
 }
 
 /// The items of so many lanes: what they give, and how many packets each lane has.
-fn pass_lanes(
-    alloc: Global,
-    lanes: u32,
-    phases: &[Phase],
-) -> Result<(Passed, Vec<u32>), AllocError>
+fn pass_lanes(alloc: Global, lanes: u32, phases: &[Phase]) -> Result<(Passed, Vec<u32>), AllocError>
     requires few { lanes ≤ 16 }
     requires items { length (items_in phases.now) ≤ 1048576 }
     ensures { IfOk result (λ r. PassesLanes lanes phases.now r.0 r.1.items) }

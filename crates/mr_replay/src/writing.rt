@@ -66,10 +66,7 @@ fn vif_line(devices: &[Named], vif: &VifRecord, totals: &VifTotals) -> VifLine
 }
 
 /// The lines of the live entries.
-fn route_lines(
-    alloc: Global,
-    routes: &[(Route, RouteTotals)],
-) -> Result<Vec<RouteLine>, AllocError>
+fn route_lines(alloc: Global, routes: &[(Route, RouteTotals)]) -> Result<Vec<RouteLine>, AllocError>
     ensures { IfOk result (λ v. v.items ≡ map route_line routes.now) }
 {
     let mut lines = Vec::with_capacity(alloc, routes.len())?;
