@@ -1,5 +1,7 @@
 use super::*;
-use mr_base::{Failed, FileName, ListClock, MemDoor, MemSink, MemStore, OpenGate, Sink, Store};
+use mr_base::{
+    Failed, FileName, ListClock, MemDoor, MemSink, MemStore, OpenGate, ReadError, Sink, Store,
+};
 use std::alloc::{AllocError, Global};
 use std::process::Abort;
 use std::sync::Wait;
@@ -361,6 +363,63 @@ fn sink_asked(rt: HostRuntime) -> Result<(), Fail> {
         let mut out = Full { asked: 0 };
         let status = ran(&rt, words, &mut store, &mut out)?;
         assert_eq!(rt; (status.number(), out.asked), (number, asked), "at {text}");
+    }
+    Ok(())
+}
+
+/// A store each of whose files holds a scenario without phases.
+#[derive(Drop)]
+struct Same {
+    /// How often it was read.
+    asked: u64,
+    is_read: bool,
+    name: FileName,
+}
+
+impl Store for Same {
+    ghost use Rattle.std.specs.Prelude.{None};
+
+    ghost told = { λ s. None };
+
+    ghost faults = { λ s. 0 };
+
+    ghost last = { λ s. record { is_read = s.is_read; name = s.name; failed = false } };
+
+    fn read(&mut self, alloc: Global, name: &str) -> Result<Vec<u8>, ReadError> {
+        self.asked = self.asked.saturating_add(1);
+        self.is_read = true;
+        self.name = FileName::new(name);
+        match Vec::from_slice(alloc, b"scenario 1\n") {
+            Ok(bytes) => Ok(bytes),
+            Err(_) => Err(ReadError::Memory),
+        }
+    }
+
+    fn write(&mut self, name: &str, bytes: &[u8]) -> Result<(), Failed> {
+        self.is_read = false;
+        self.name = FileName::new(name);
+        Ok(())
+    }
+}
+
+#[test]
+fn file_read_once(rt: HostRuntime) -> Result<(), Fail> {
+    for (words, number, asked) in [("replay g", 0, 1), ("replay", 1, 0)] {
+        let mut store = Same {
+            asked: 0,
+            is_read: true,
+            name: FileName::new(""),
+        };
+        let mut out = MemSink::with(rt.alloc(), Vec::new(rt.alloc()));
+        let status = ran(&rt, words, &mut store, &mut out)?;
+        assert_eq!(rt;
+            (status.number(), store.asked),
+            (number, asked),
+            "at {words}"
+        );
+        // The last call is a read of the file, or none was made.
+        assert!(rt; store.is_read);
+        assert_eq!(rt; store.name.as_str(), if asked == 0 { "" } else { "g" });
     }
     Ok(())
 }
