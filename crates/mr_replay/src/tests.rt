@@ -377,7 +377,7 @@ struct Same {
 }
 
 impl Store for Same {
-    ghost use Rattle.std.specs.Prelude.{None};
+    ghost use Rattle.std.specs.Prelude.{None, false};
 
     ghost told = { λ s. None };
 
