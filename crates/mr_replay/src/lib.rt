@@ -13,6 +13,12 @@ mod playing;
 mod route_list;
 mod skips;
 mod status;
+#[cfg(test)]
+mod tests;
+#[cfg(test)]
+mod tests_lanes;
+#[cfg(test)]
+mod tests_refused;
 mod top;
 mod totals;
 mod unbuilt;
