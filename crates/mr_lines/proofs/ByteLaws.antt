@@ -97,6 +97,54 @@ grown_over most value (b ∷ after) whole some digit over reads =
     let more : fold digit_on (digit_on value b) (digits_of after) ≡ fold digit_on 0 (digits_of whole) = sym (ap (fold digit_on value) cut) ∙ reads in
     omega (arith, grows (digits_of after) (digit_on value b), more, over)
 
+-- One more digit makes the number greater than it may be, whatever digits come behind.
+pub grown_above : (most value total : ℕ) (left : List ℕ) → 1 ≤ length left → is_digit (get_or left 0 0) ≡ true → (digit_on value (get_or left 0 0) ≤ most → ⊥) →
+    fold digit_on value (digits_of left) ≡ total → most < total
+grown_above most value total [] some digit over reads = absurd (omega arith)
+grown_above most value total (b ∷ after) some digit over reads =
+    let cut : digits_of (b ∷ after) ≡ b ∷ digits_of after = rw digit refl in
+    let more : fold digit_on (digit_on value b) (digits_of after) ≡ total = sym (ap (fold digit_on value) cut) ∙ reads in
+    omega (arith, grows (digits_of after) (digit_on value b), more, over)
+
+-- A number has a byte.
+pub begins_some : (bs : List ℕ) → begins_number bs ≡ true → 0 < length bs
+begins_some [] begins = absurd (cc)
+begins_some (b ∷ bs) begins = omega arith
+
+-- Its first byte is a digit.
+pub begins_digit : (bs : List ℕ) → begins_number bs ≡ true → is_digit (slice_index bs 0) ≡ true
+begins_digit [] begins = absurd (cc)
+begins_digit (b ∷ bs) begins = elim (cases_Bool (is_digit b)) [
+  | inl digit ↦ digit
+  | inr other ↦ absurd (cc (begins, not_begun b bs other))
+]
+  where
+    not_begun : (b : ℕ) (bs : List ℕ) → is_digit b ≡ false → begins_number (b ∷ bs) ≡ false
+    not_begun b bs other = begins_leads (b ∷ bs) ∙ rw other refl
+
+-- The digits of a number are the first, and those behind it.
+pub first_digit : (bs after : List ℕ) (first : ℕ) → begins_number bs ≡ true → bs ≡ slice_index bs 0 ∷ after → first ≡ digit_on 0 (slice_index bs 0) →
+    (fold digit_on first (digits_of after) ≡ fold digit_on 0 (digits_of bs)) × (past_digits after ≡ past_digits bs)
+first_digit bs after first begins cut is =
+    let digit = begins_digit bs begins in
+    let opened : digits_of (slice_index bs 0 ∷ after) ≡ slice_index bs 0 ∷ digits_of after = rw digit refl in
+    let passed : past_digits (slice_index bs 0 ∷ after) ≡ past_digits after = rw digit refl in
+    (
+        ap (λ n. fold digit_on n (digits_of after)) is ∙ sym (ap (fold digit_on 0) (ap digits_of cut ∙ opened)),
+        sym (ap past_digits cut ∙ passed)
+    )
+
+-- the first digit is too much
+pub first_over : (most : ℕ) (bs : List ℕ) → begins_number bs ≡ true → (digit_on 0 (slice_index bs 0) ≤ most → ⊥) → number_of most (digits_of bs) ≡ None
+first_over most bs begins over = too_much most bs (grown_above most 0 (fold digit_on 0 (digits_of bs)) bs (omega (arith, begins_some bs begins)) (begins_digit bs begins) over refl)
+
+-- the digits behind the first are those of a number
+pub rest_is : (most first n : ℕ) (bs after left : List ℕ) → begins_number bs ≡ true → bs ≡ slice_index bs 0 ∷ after → first ≡ digit_on 0 (slice_index bs 0) →
+    (fold digit_on first (digits_of after) ≡ n) × (n ≤ most) × (left ≡ past_digits after) → (number_of most (digits_of bs) ≡ Some n) × (left ≡ past_digits bs)
+rest_is most first n bs after left begins cut is reads =
+    let known = first_digit bs after first begins cut is in
+    (is_number most n bs begins (sym known.0 ∙ reads.0) reads.1, reads.2 ∙ known.1)
+
 -- the words behind a separator
 abbrev pub behind_sep : ℕ → List ℕ → List Word
 behind_sep sep [] = []

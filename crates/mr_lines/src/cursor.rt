@@ -42,6 +42,7 @@ pub fn next_word(rest: &[u8]) -> Option<(&[u8], &[u8])>
 }
 
 /// Whether no word goes on here.
+#[inline(always)]
 pub fn ends(bytes: &[u8]) -> bool
     ensures { result ≡ ends bytes.now }
 {

@@ -95,6 +95,7 @@ pub fn key_at(rest: &[u8]) -> Option<(MfcKey, &[u8])>
 }
 
 /// What is left behind the word `-`, if it is the first.
+#[inline(always)]
 #[tactic(auto, using(crate::proofs::ByteLaws::dash_ends, crate::proofs::ByteLaws::dash_goes_on, crate::proofs::ByteLaws::no_dash))]
 pub fn past_dash(bytes: &[u8]) -> Option<&[u8]>
     ensures { MatchOption result (bytes_eq (before 32 bytes.now) (codes "-") ≡ false) (λ x. parts_of 32 bytes.now ≡ codes "-" ∷ behind x.now) }
@@ -106,6 +107,7 @@ pub fn past_dash(bytes: &[u8]) -> Option<&[u8]>
 }
 
 /// The first word as a vif, or `-`.
+#[inline(always)]
 fn first_vif(bytes: &[u8]) -> Option<(Option<u8>, &[u8])>
     ensures { Gives (λ r. r.now) result (vif_or_none (parts_of 32 bytes.now)) }
 {
@@ -119,6 +121,7 @@ fn first_vif(bytes: &[u8]) -> Option<(Option<u8>, &[u8])>
 }
 
 /// A vif, or `-`.
+#[inline(always)]
 pub fn vif_or_none_at(rest: &[u8]) -> Option<(Option<u8>, &[u8])>
     ensures { Gives (λ r. r.now) result (vif_or_none (behind rest.now)) }
 {

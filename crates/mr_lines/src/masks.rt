@@ -1,6 +1,6 @@
 //! Masks, read in one pass.
 
-ghost use Rattle.std.specs.Prelude.{◌≡◌, ◌+◌, ◌^◌, ◌<◌, ◌≤◌, None, Some, MatchOption, ◌∷◌, true, false, length, slice_index};
+ghost use Rattle.std.specs.Prelude.{◌≡◌, ◌+◌, ◌^◌, ◌<◌, ◌≤◌, None, Some, MatchOption, true, false};
 ghost use Rattle.mr_lines.specs.Bytes.{behind, ends, begins_comma, Gives};
 ghost use Rattle.mr_lines.specs.Fields.{leaving};
 ghost use Rattle.mr_lines.specs.Reading.{mask};
@@ -9,10 +9,11 @@ ghost use Rattle.mr_words.specs.Parts.{before, parts_behind, parts_of};
 
 use crate::cursor::ends;
 use crate::fields::past_dash;
-use crate::numbers::leading_number;
+use crate::numbers::{leading_number, past};
 use mr_base::Mask;
 
 /// A mask with one vif more, which is above those that it has.
+#[inline(always)]
 fn with_vif(mask: u32, vif: u32) -> u32
     requires vif { vif ≤ 31 }
     requires above { mask < 2 ^ vif }
@@ -23,21 +24,15 @@ fn with_vif(mask: u32, vif: u32) -> u32
 }
 
 /// Whether a comma stands here.
+#[inline(always)]
 fn is_comma(bytes: &[u8]) -> bool
     ensures { result ≡ begins_comma bytes.now }
 {
     bytes.len() != 0 && bytes[0] == b','
 }
 
-/// The bytes behind the first.
-fn past(bytes: &[u8]) -> &[u8]
-    requires { 0 < length bytes.now }
-    ensures { bytes.now ≡ slice_index bytes.now 0 ∷ result.now }
-{
-    &bytes[1..]
-}
-
 /// The mask of the first word, and what is left behind it.
+#[inline(always)]
 fn vifs(bytes: &[u8]) -> Option<(u32, &[u8])>
     ensures { Gives (λ r. r.now) result (leaving (parts_behind 32 bytes.now) (with_vifs 0 0 (parts_of 44 (before 32 bytes.now)))) }
 {
@@ -66,6 +61,7 @@ fn vifs(bytes: &[u8]) -> Option<(u32, &[u8])>
 }
 
 /// The mask of the first word, and what is left behind it.
+#[inline(always)]
 fn first_mask(bytes: &[u8]) -> Option<(Mask, &[u8])>
     ensures { Gives (λ r. r.now) result (mask (parts_of 32 bytes.now)) }
 {
@@ -79,6 +75,7 @@ fn first_mask(bytes: &[u8]) -> Option<(Mask, &[u8])>
 }
 
 /// A mask.
+#[inline(always)]
 pub fn mask_at(rest: &[u8]) -> Option<(Mask, &[u8])>
     ensures { Gives (λ r. r.now) result (mask (behind rest.now)) }
 {

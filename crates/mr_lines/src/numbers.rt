@@ -1,6 +1,6 @@
 //! Numbers read in one pass.
 
-ghost use Rattle.std.specs.Prelude.{◌≡◌, ◌<◌, ◌≤◌, ◌==◌, ◌&&◌, nat_le, if◌then◌else◌, Some, None, IfSome, MatchOption, SomeIff, length, fold};
+ghost use Rattle.std.specs.Prelude.{◌≡◌, ◌<◌, ◌≤◌, ◌∷◌, ◌==◌, ◌&&◌, nat_le, if◌then◌else◌, Some, None, IfSome, MatchOption, SomeIff, length, slice_index, fold};
 ghost use Rattle.mr_lines.specs.Bytes.{behind, ends, digits_of, past_digits, begins_number, Gives};
 ghost use Rattle.mr_lines.specs.Fields.{one};
 ghost use Rattle.mr_lines.specs.Reading.{u8, u16, u32};
@@ -11,6 +11,7 @@ use crate::cursor::ends;
 use mr_words::is_digit;
 
 /// Whether a number may begin here: a digit, and it is no zero before other digits.
+#[inline(always)]
 pub fn begins_number(bytes: &[u8]) -> bool
     ensures { result ≡ begins_number bytes.now }
 {
@@ -20,26 +21,30 @@ pub fn begins_number(bytes: &[u8]) -> bool
 }
 
 /// A number with one more digit, if it is at most `most`.
-fn grown(value: u32, digit: u8, most: u32) -> Option<u32>
+#[inline(always)]
+fn grown(value: u64, digit: u8, most: u32) -> Option<u64>
+    requires { value ≤ most }
     ensures { SomeIff result (digit_on value digit ≤ most) (digit_on value digit) }
 {
-    let next = u64::from(value) * 10 + u64::from(digit.saturating_sub(b'0'));
+    let next = value * 10 + u64::from(digit.saturating_sub(b'0'));
     if next <= u64::from(most) {
-        Some(next as u32)
+        Some(next)
     } else {
         None
     }
 }
 
-/// The number that the digits here spell, if it is at most `most`, and the bytes behind them.
-fn digits(bytes: &[u8], most: u32) -> Option<(u32, &[u8])>
-    ensures { MatchOption result (most < fold digit_on 0 (digits_of bytes.now)) (λ x. (fold digit_on 0 (digits_of bytes.now) ≡ x.0) × (x.0 ≤ most) × (x.1.now ≡ past_digits bytes.now)) }
+/// The number that the digits here spell behind those of a first number, if it is at most `most`, and the bytes behind them.
+#[inline(always)]
+fn digits(first: u64, bytes: &[u8], most: u32) -> Option<(u32, &[u8])>
+    requires { first ≤ most }
+    ensures { MatchOption result (most < fold digit_on first (digits_of bytes.now)) (λ x. (fold digit_on first (digits_of bytes.now) ≡ x.0) × (x.0 ≤ most) × (x.1.now ≡ past_digits bytes.now)) }
 {
-    let mut value = 0u32;
+    let mut value = first;
     let mut left = bytes;
     'digits: while let [b, after @ ..] = left {
         if !is_digit(*b) {
-            return Some((value, left));
+            return Some((value as u32, left));
         }
         match grown(value, *b, most) {
             Some(next) => value = next,
@@ -47,10 +52,20 @@ fn digits(bytes: &[u8], most: u32) -> Option<(u32, &[u8])>
         }
         left = after;
     }
-    Some((value, left))
+    Some((value as u32, left))
+}
+
+/// The bytes behind the first.
+#[inline(always)]
+pub fn past(bytes: &[u8]) -> &[u8]
+    requires { 0 < length bytes.now }
+    ensures { bytes.now ≡ slice_index bytes.now 0 ∷ result.now }
+{
+    &bytes[1..]
 }
 
 /// The number that begins here, if it is at most `most`, and the bytes behind its digits.
+#[inline(always)]
 pub fn leading_number(bytes: &[u8], most: u32) -> Option<(u32, &[u8])>
     ensures number { MatchOption result (number_of most (digits_of bytes.now) ≡ None) (λ x. (number_of most (digits_of bytes.now) ≡ Some x.0) × (x.1.now ≡ past_digits bytes.now)) }
     ensures within { IfSome result (λ x. x.0 ≤ most) }
@@ -58,11 +73,17 @@ pub fn leading_number(bytes: &[u8], most: u32) -> Option<(u32, &[u8])>
     if !begins_number(bytes) {
         return None;
     }
-    let (number, left) = digits(bytes, most)?;
-    Some((number, left))
+    match grown(0, bytes[0], most) {
+        None => None,
+        Some(first) => match digits(first, past(bytes), most) {
+            None => None,
+            Some((number, left)) => Some((number, left)),
+        },
+    }
 }
 
 /// The number that the first word spells, if it is at most `most`, and what is left behind it.
+#[inline(always)]
 pub fn first_number(bytes: &[u8], most: u32) -> Option<(u32, &[u8])>
     ensures number { Gives (λ r. r.now) result (one (number_of most) (parts_of 32 bytes.now)) }
     ensures within { IfSome result (λ x. x.0 ≤ most) }
@@ -80,6 +101,7 @@ pub fn first_number(bytes: &[u8], most: u32) -> Option<(u32, &[u8])>
 }
 
 /// The number that the next word of what is left spells, if it is at most `most`, and what is left behind it.
+#[inline(always)]
 fn number_at(rest: &[u8], most: u32) -> Option<(u32, &[u8])>
     ensures number { Gives (λ r. r.now) result (one (number_of most) (behind rest.now)) }
     ensures within { IfSome result (λ x. x.0 ≤ most) }
@@ -91,6 +113,7 @@ fn number_at(rest: &[u8], most: u32) -> Option<(u32, &[u8])>
 }
 
 /// A number of 32 bits.
+#[inline(always)]
 pub fn u32_at(rest: &[u8]) -> Option<(u32, &[u8])>
     ensures { Gives (λ r. r.now) result (u32 (behind rest.now)) }
 {

@@ -94,6 +94,7 @@ fn released_at(lane: u32, index: u32, rest: &[u8]) -> Option<(Line, &[u8])>
     ))
 }
 
+#[inline(always)]
 fn record_at(index: u32, look: u32, rest: &[u8]) -> Option<(FastRecord, &[u8])>
     ensures { Gives (λ r. r.now) result (mapped (record_of (index, look)) (both u32 (both vif_or_none mask)) (behind rest.now)) }
 {
@@ -114,6 +115,7 @@ fn record_at(index: u32, look: u32, rest: &[u8]) -> Option<(FastRecord, &[u8])>
 }
 
 /// The fields of a record.
+#[inline(always)]
 fn record_fields(rest: &[u8]) -> Option<(FastRecord, &[u8])>
     ensures { Gives (λ r. r.now) result (record_fields (behind rest.now)) }
 {
@@ -123,6 +125,7 @@ fn record_fields(rest: &[u8]) -> Option<(FastRecord, &[u8])>
 }
 
 /// The fields of a record, and nothing behind them.
+#[inline(always)]
 fn whole_record(rest: &[u8]) -> Option<FastRecord>
     ensures { result ≡ whole record_fields (behind rest.now) }
 {
@@ -131,6 +134,7 @@ fn whole_record(rest: &[u8]) -> Option<FastRecord>
 }
 
 /// The record whose line bytes without a line feed spell, if they spell one. It is quicker than `read_line`.
+#[inline(always)]
 pub fn read_record(line: &[u8]) -> Option<FastRecord>
     ensures { result ≡ option_and_then as_record (line_of (parts_of 32 line.now)) }
 {
@@ -141,6 +145,7 @@ pub fn read_record(line: &[u8]) -> Option<FastRecord>
 }
 
 /// A released packet or a record: what stands behind both numbers tells.
+#[inline(never)]
 fn dash_at(rest: &[u8]) -> Option<(Line, &[u8])>
     ensures { Gives (λ r. r.now) result (dash (behind rest.now)) }
 {
@@ -282,6 +287,7 @@ fn line_by_word<'a>(line: &'a [u8], word: &[u8], rest: &'a [u8]) -> Option<(Line
 }
 
 /// The line that bytes without a line feed spell, if they spell one.
+#[inline(never)]
 pub fn read_line(line: &[u8]) -> Option<Line>
     ensures { result ≡ line_of (parts_of 32 line.now) }
 {

@@ -10,6 +10,10 @@ mod steps;
 #[cfg(test)]
 mod tests;
 #[cfg(test)]
+mod tests_forms;
+#[cfg(test)]
+mod tests_worked;
+#[cfg(test)]
 mod tests_writing;
 mod writing;
 

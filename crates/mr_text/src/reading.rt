@@ -32,6 +32,7 @@ fn first_state(alloc: Global) -> State
 }
 
 /// Whether the next line has to be a record.
+#[inline(always)]
 fn is_record_due(state: &State) -> bool {
     match &state.current {
         Current::Settle { left, .. } => *left > 0,
@@ -39,7 +40,19 @@ fn is_record_due(state: &State) -> bool {
     }
 }
 
+/// What the bytes of any line do.
+#[inline(never)]
+fn take_any(alloc: Global, line: u32, state: &mut State, bytes: &[u8]) -> Result<(), TextError>
+    ensures { Steps result line state.new (line_step line state.old bytes.now) }
+{
+    match read_line(bytes) {
+        None => Err(TextError::Line(line)),
+        Some(read) => step(alloc, line, state, read),
+    }
+}
+
 /// What the bytes of a line do. Records are the most of all lines, so they are pushed as they are read.
+#[inline(always)]
 fn take_line(alloc: Global, line: u32, state: &mut State, bytes: &[u8]) -> Result<(), TextError>
     ensures { Steps result line state.new (line_step line state.old bytes.now) }
 {
@@ -48,10 +61,7 @@ fn take_line(alloc: Global, line: u32, state: &mut State, bytes: &[u8]) -> Resul
             return record(line, state, fast);
         }
     }
-    match read_line(bytes) {
-        None => Err(TextError::Line(line)),
-        Some(read) => step(alloc, line, state, read),
-    }
+    take_any(alloc, line, state, bytes)
 }
 
 /// The parts, where `end` was the last line and no byte stands behind its line feed.

@@ -1,6 +1,6 @@
 //! What one line does to what was read so far. Where it may not come its number is the answer.
 
-ghost use Rattle.std.specs.Prelude.{◌≡◌, option_and_then};
+ghost use Rattle.std.specs.Prelude.{◌≡◌, [], IfOk, option_and_then};
 ghost use Rattle.mr_lines.specs.Fit.{no_flow};
 ghost use Rattle.mr_text.specs.Answers.{Steps};
 ghost use Rattle.mr_text.specs.Walk.{added, begun, closed, has_no_tail, is_inside, is_next, opened, recorded, released, skipped, step, with_end, with_fate, with_route, with_vif};
@@ -11,7 +11,7 @@ use crate::reading_state::{Current, State};
 use mr_base::{Addr, Few, List};
 use mr_lines::{Line, RouteLine, Skip, VifLine};
 use mr_model::{Entry, FastRecord, FateLine, Flow, ReleasedId};
-use std::alloc::Global;
+use std::alloc::{AllocError, Global};
 use std::mem;
 
 /// Whether the line stands between the first and the last.
@@ -114,6 +114,7 @@ fn release(line: u32, state: &mut State, packet: ReleasedId) -> Result<(), TextE
 }
 
 /// A record of the current settle.
+#[inline(always)]
 pub fn record(line: u32, state: &mut State, fast: FastRecord) -> Result<(), TextError>
     ensures { Steps result line state.new (recorded state.old fast state.old.current) }
 {
@@ -211,7 +212,16 @@ fn begin(line: u32, state: &mut State) -> Result<(), TextError>
     Ok(())
 }
 
+/// An empty list with room for the records of a settle. It has 64 of them at most, unless the text is no router's.
+fn with_room(alloc: Global, count: u64) -> Result<List<FastRecord>, AllocError>
+    ensures { IfOk result (λ l. l ≡ []) }
+{
+    let room = count.min(64);
+    Ok(List(Vec::with_capacity(alloc, room as usize)?))
+}
+
 /// What a line does.
+#[inline(never)]
 pub fn step(alloc: Global, line: u32, state: &mut State, read: Line) -> Result<(), TextError>
     ensures { Steps result line state.new (step line state.old read) }
 {
@@ -255,7 +265,7 @@ pub fn step(alloc: Global, line: u32, state: &mut State, read: Line) -> Result<(
             lane,
             count,
         } => {
-            let records = List(Vec::new(alloc));
+            let records = with_room(alloc, count)?;
             let current = Current::Settle {
                 lane,
                 records,

@@ -5,7 +5,7 @@ use Rattle.mr_lines.proofs.numbers.digits.Given as goal
 
 abbrev pub invariant-digits : goal.invariant-digits
 invariant-digits l = record {
-  value : fold digit_on l.value (digits_of l.left) ≡ fold digit_on 0 (digits_of l.bytes);
+  value : fold digit_on l.value (digits_of l.left) ≡ fold digit_on l.first (digits_of l.bytes);
   bound : l.value ≤ l.most;
   past : past_digits l.left ≡ past_digits l.bytes;
 }
