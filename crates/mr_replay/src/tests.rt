@@ -201,6 +201,25 @@ fn packets(rt: HostRuntime) -> Result<(), Fail> {
     Ok(())
 }
 
+#[test]
+fn one_packet(rt: HostRuntime) -> Result<(), Fail> {
+    let phase = format!(in rt.alloc(); "phase\nlane 1 pkt eth0 {PACKET}\n")?;
+    check_after_setup(
+        &rt,
+        phase.as_str(),
+        "5 phase\n6 slow 1 1 5 fwd 4 0 1\n7 phase\nroute 4 10.0.0.9 239.1.1.1 0 1 28 0\nvif 0 eth0 1 0 28 0\nvif 1 eth1 0 1 0 28\nend\n",
+    )?;
+    // A register vif whose threshold the packet does not exceed takes nothing.
+    let beside = format!(in rt.alloc();
+        "daemon 1 addvif 2 4 0.0.0.0\ndaemon 1 addmfc 10.0.0.9 239.1.1.1 0 1:1 2:2\n{phase}"
+    )?;
+    check_after_setup(
+        &rt,
+        beside.as_str(),
+        "5 call 1 addvif 2 4 0.0.0.0 = ok\n6 call 1 addmfc 10.0.0.9 239.1.1.1 0 1:1 2:2 = ok\n7 phase\n8 slow 1 1 7 fwd 4 0 1\n9 phase\nroute 4 10.0.0.9 239.1.1.1 0 1 28 0\nvif 0 eth0 1 0 28 0\nvif 1 eth1 0 1 0 28\nvif 2 pimreg 0 0 0 0\nend\n",
+    )
+}
+
 /// Four devices with vifs, and entries whose thresholds are below the packet's TTL, equal to it and above it.
 const THRESHOLDS: &str = "\
 scenario 1

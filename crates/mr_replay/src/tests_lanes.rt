@@ -111,7 +111,7 @@ fn skips_by_lane(rt: HostRuntime) -> Result<(), Fail> {
     )
 }
 
-/// One more than the lines, the limit, and the status's number.
+/// Limits on control entries, with the lines of a first phase and what they come to.
 #[test]
 fn room_for_the_lines(rt: HostRuntime) -> Result<(), Fail> {
     let cases = [
