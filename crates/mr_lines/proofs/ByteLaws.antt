@@ -128,10 +128,9 @@ pub first_digit : (bs after : List ℕ) (first : ℕ) → begins_number bs ≡ t
 first_digit bs after first begins cut is =
     let digit = begins_digit bs begins in
     let opened : digits_of (slice_index bs 0 ∷ after) ≡ slice_index bs 0 ∷ digits_of after = rw digit refl in
-    let passed : past_digits (slice_index bs 0 ∷ after) ≡ past_digits after = rw digit refl in
-    (
-        ap (λ n. fold digit_on n (digits_of after)) is ∙ sym (ap (fold digit_on 0) (ap digits_of cut ∙ opened)),
-        sym (ap past_digits cut ∙ passed)
+    let passed : past_digits (slice_index bs 0 ∷ after) ≡ past_digits after = rw digit refl in (
+      ap (λ n. fold digit_on n (digits_of after)) is ∙ sym (ap (fold digit_on 0) (ap digits_of cut ∙ opened)),
+      sym (ap past_digits cut ∙ passed),
     )
 
 -- the first digit is too much

@@ -20,17 +20,15 @@ pub fn begins_number(bytes: &[u8]) -> bool
         && (bytes[0] != b'0' || bytes.len() == 1 || !is_digit(bytes[1]))
 }
 
-/// A number with one more digit, if it is at most `most`. Far below it there is no need of a wide number.
+/// A number with one more digit, if it is at most `most`.
 #[inline(always)]
-fn grown(value: u32, digit: u8, most: u32) -> Option<u32>
+fn grown(value: u64, digit: u8, most: u32) -> Option<u64>
+    requires { value ≤ most }
     ensures { SomeIff result (digit_on value digit ≤ most) (digit_on value digit) }
 {
-    if value < most / 10 && digit <= b'9' {
-        return Some(value * 10 + u32::from(digit.saturating_sub(b'0')));
-    }
-    let next = u64::from(value) * 10 + u64::from(digit.saturating_sub(b'0'));
+    let next = value * 10 + u64::from(digit.saturating_sub(b'0'));
     if next <= u64::from(most) {
-        Some(next as u32)
+        Some(next)
     } else {
         None
     }
@@ -38,7 +36,7 @@ fn grown(value: u32, digit: u8, most: u32) -> Option<u32>
 
 /// The number that the digits here spell behind those of a first number, if it is at most `most`, and the bytes behind them.
 #[inline(always)]
-fn digits(first: u32, bytes: &[u8], most: u32) -> Option<(u32, &[u8])>
+fn digits(first: u64, bytes: &[u8], most: u32) -> Option<(u32, &[u8])>
     requires { first ≤ most }
     ensures { MatchOption result (most < fold digit_on first (digits_of bytes.now)) (λ x. (fold digit_on first (digits_of bytes.now) ≡ x.0) × (x.0 ≤ most) × (x.1.now ≡ past_digits bytes.now)) }
 {
@@ -46,7 +44,7 @@ fn digits(first: u32, bytes: &[u8], most: u32) -> Option<(u32, &[u8])>
     let mut left = bytes;
     'digits: while let [b, after @ ..] = left {
         if !is_digit(*b) {
-            return Some((value, left));
+            return Some((value as u32, left));
         }
         match grown(value, *b, most) {
             Some(next) => value = next,
@@ -54,7 +52,7 @@ fn digits(first: u32, bytes: &[u8], most: u32) -> Option<(u32, &[u8])>
         }
         left = after;
     }
-    Some((value, left))
+    Some((value as u32, left))
 }
 
 /// The bytes behind the first.
