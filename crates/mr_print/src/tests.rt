@@ -1,5 +1,6 @@
 use super::*;
 use mr_base::{Addr, DaemonNo, Errno, FileName, LaneNo, Mask};
+use mr_lines::{RouteLine, Skip, VifLine};
 use mr_model::{
     Cause, FastRecord, Fate, FateLine, Flow, Kind, MessageId, MfcCtl, MfcKey, Outcome, ReleasedId,
     Reply, Report, Request, RouteTotals, VifCtl, VifTotals,
