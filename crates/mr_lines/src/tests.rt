@@ -108,7 +108,7 @@ fn ends_and_skips(rt: HostRuntime) {
 }
 
 #[test]
-fn requests(rt: HostRuntime) {
+fn requests_of_vifs(rt: HostRuntime) {
     let device = VifCtl {
         vif: 65_535,
         flags: 8,
@@ -135,6 +135,10 @@ fn requests(rt: HostRuntime) {
     assert!(rt; is_none(b"1 call 2 addvif 0 4 @0 = ok"));
     assert!(rt; is_none(b"1 call 2 addvif 0 256 0.0.0.0 = ok"));
     assert!(rt; is_none(b"1 call 2 addvif 65536 0 0.0.0.0 = ok"));
+}
+
+#[test]
+fn requests_of_entries(rt: HostRuntime) {
     let mut ttls = [0u8; 32];
     assert!(rt;
         asks(
@@ -172,6 +176,10 @@ fn requests(rt: HostRuntime) {
         )
     );
     assert!(rt; is_none(b"1 call 2 delmfc 0.0.0.0 255.255.255.256 7 = ok"));
+}
+
+#[test]
+fn requests_of_few_words(rt: HostRuntime) {
     assert!(rt; asks(b"1 call 2 init = ok", Request::Init));
     assert!(rt; asks(b"1 call 2 done = ok", Request::Finish));
     assert!(rt; asks(b"1 call 2 delvif 3 = ok", Request::DelVif(3)));

@@ -27,72 +27,66 @@ fn whole(line: &[u8]) -> &str {
     str::from_utf8(line).unwrap_or("..")
 }
 
-/// What is wrong with a line: what was found, and what was expected.
-pub fn mistake(alloc: Global, line: &[u8], kind: Kind) -> Result<String, AllocError> {
-    let first = text_at(line, 0);
-    let (what, found, expected) = match kind {
-        Kind::Header => (
-            "first line",
-            whole(line),
-            "'scenario 1', in front of all others",
-        ),
-        Kind::Word => (
-            "word or number of words in",
-            whole(line),
-            form(first, text_at(line, 2)),
-        ),
-        Kind::Number => {
-            let (word, range) = bad_number(line);
-            ("number", word, range)
-        }
-        Kind::Address => (
-            "address",
-            bad_address(line),
-            "four numbers of 0 to 255 parted by dots",
-        ),
-        Kind::Name => (
-            "device name",
-            text_at(line, 1),
-            "1 to 15 letters, digits, '.', '_', '-' or ':', a letter first, not pimreg, each name once",
-        ),
-        Kind::Device => (
-            "device",
-            text_at(line, 3),
-            "a name of a line 'device NAME ADDRESS'",
-        ),
-        Kind::Lane => (
-            "lane",
-            text_at(line, 1),
-            "a number from 1 to that of the lanes",
-        ),
-        Kind::Daemon => (
-            "daemon",
-            text_at(line, 1),
-            "the number, from 1, of a daemon of the sort that has this operation",
-        ),
-        Kind::Hex => (
-            "hex",
-            hex_of(line),
-            "an even number of hex digits, at most 131070",
-        ),
-        Kind::Threshold => (
-            "threshold",
-            bad_threshold(line),
-            "V:T, V 0 to 31 each once, T 0 to 255",
-        ),
-        Kind::Limit => ("line, one too many:", whole(line), limit(first)),
-        Kind::File => (
-            "file",
-            bad_file(line),
-            "a name of 1 to 255 bytes without '/', not '.' or '..', which does not begin with 'out-', at most 8",
-        ),
-    };
-    format!(in alloc; "bad {what} '{found}' ({expected})")
+/// What is bad in a line with a mistake of this kind.
+fn subject(kind: Kind) -> &'static str {
+    match kind {
+        Kind::Header => "first line",
+        Kind::Word => "word or number of words in",
+        Kind::Number => "number",
+        Kind::Address => "address",
+        Kind::Name => "device name",
+        Kind::Device => "device",
+        Kind::Lane => "lane",
+        Kind::Daemon => "daemon",
+        Kind::Hex => "hex",
+        Kind::Threshold => "threshold",
+        Kind::Limit => "line, one too many:",
+        Kind::File => "file",
+    }
 }
 
-/// The hex digits of a line.
-fn hex_of(line: &[u8]) -> &str {
-    text_at(line, 4)
+/// The bad word of a line, or the whole line where no word alone is bad.
+fn found(line: &[u8], kind: Kind) -> &str {
+    match kind {
+        Kind::Header | Kind::Word | Kind::Limit => whole(line),
+        Kind::Number => bad_number(line).0,
+        Kind::Address => bad_address(line),
+        Kind::Name | Kind::Lane | Kind::Daemon => text_at(line, 1),
+        Kind::Device => text_at(line, 3),
+        Kind::Hex => text_at(line, 4),
+        Kind::Threshold => bad_threshold(line),
+        Kind::File => bad_file(line),
+    }
+}
+
+/// What was expected in a line with a mistake of this kind.
+fn expected(line: &[u8], kind: Kind) -> &'static str {
+    match kind {
+        Kind::Header => "'scenario 1', in front of all others",
+        Kind::Word => form(text_at(line, 0), text_at(line, 2)),
+        Kind::Number => bad_number(line).1,
+        Kind::Address => "four numbers of 0 to 255 parted by dots",
+        Kind::Name => {
+            "1 to 15 letters, digits, '.', '_', '-' or ':', a letter first, not pimreg, each name once"
+        }
+        Kind::Device => "a name of a line 'device NAME ADDRESS'",
+        Kind::Lane => "a number from 1 to that of the lanes",
+        Kind::Daemon => "the number, from 1, of a daemon of the sort that has this operation",
+        Kind::Hex => "an even number of hex digits, at most 131070",
+        Kind::Threshold => "V:T, V 0 to 31 each once, T 0 to 255",
+        Kind::Limit => limit(text_at(line, 0)),
+        Kind::File => {
+            "a name of 1 to 255 bytes without '/', not '.' or '..', which does not begin with 'out-', at most 8"
+        }
+    }
+}
+
+/// What is wrong with a line: what was found, and what was expected.
+pub fn mistake(alloc: Global, line: &[u8], kind: Kind) -> Result<String, AllocError> {
+    let what = subject(kind);
+    let word = found(line, kind);
+    let wanted = expected(line, kind);
+    format!(in alloc; "bad {what} '{word}' ({wanted})")
 }
 
 /// Shows a bad line of a scenario.

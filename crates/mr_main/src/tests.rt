@@ -7,7 +7,7 @@ fn shown(rt: &HostRuntime, line: &[u8], kind: Kind) -> Result<String, Fail> {
 }
 
 #[test]
-fn mistakes(rt: HostRuntime) -> Result<(), Fail> {
+fn thresholds_and_numbers(rt: HostRuntime) -> Result<(), Fail> {
     let line = b"daemon 1 addmfc 10.0.0.9 239.1.1.1 0 1:256".as_slice();
     assert_eq!(rt;
         shown(&rt, line, Kind::Threshold)?.as_str(),
@@ -33,6 +33,11 @@ fn mistakes(rt: HostRuntime) -> Result<(), Fail> {
         shown(&rt, line, Kind::Number)?.as_str(),
         "bad number '0' (1 to 16384)"
     );
+    Ok(())
+}
+
+#[test]
+fn first_lines_addresses_files_and_words(rt: HostRuntime) -> Result<(), Fail> {
     let line = b"scenario 2".as_slice();
     assert_eq!(rt;
         shown(&rt, line, Kind::Header)?.as_str(),
@@ -53,6 +58,11 @@ fn mistakes(rt: HostRuntime) -> Result<(), Fail> {
         shown(&rt, line, Kind::Word)?.as_str(),
         "bad word or number of words in 'daemon 1 addvif 0 8' (daemon D addvif I F LOCAL)"
     );
+    Ok(())
+}
+
+#[test]
+fn names_and_limits(rt: HostRuntime) -> Result<(), Fail> {
     let line = b"device pimreg 10.0.0.1".as_slice();
     assert_eq!(rt;
         shown(&rt, line, Kind::Name)?.as_str(),

@@ -9,6 +9,7 @@ mod journal;
 mod laws;
 mod loading;
 mod machine;
+mod parts;
 mod playing;
 mod route_list;
 mod skips;

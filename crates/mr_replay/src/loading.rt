@@ -10,9 +10,10 @@ ghost use Rattle.mr_replay.specs.Outcomes.{controls_due, loaded};
 ghost use Rattle.mr_replay.specs.Unbuilt.{AllBytes};
 ghost use Rattle.mr_scenario.specs.Fits.{Fits};
 
+use crate::parts::{limits_of, lines_of, phases_of};
 use crate::skips::{Passed, pass_phases};
 use crate::status::Status;
-use crate::unbuilt::{first_unbuilt, lines_of, phases_of};
+use crate::unbuilt::first_unbuilt;
 use mr_base::{FileName, List, ReadError, Store};
 use mr_lines::Skip;
 use mr_model::Limits;
@@ -97,13 +98,6 @@ fn limits_with(limits: &Limits, packets: Vec<u32>) -> Result<Limits, AllocError>
         admins: limits.admins.clone()?,
         devices: limits.devices.clone()?,
     })
-}
-
-/// The scenario's limits.
-fn limits_of(scenario: &Scenario) -> &Limits
-    ensures { result.now ≡ scenario.now.limits }
-{
-    &scenario.limits
 }
 
 /// A scenario with what its items give.

@@ -24,6 +24,7 @@ use crate::granting::{add_mfc, add_vif, init};
 use crate::halt::Halt;
 use crate::journal::{Forwarded, Journal};
 use crate::machine::Machine;
+use crate::parts::phases_of;
 use crate::totals::{count_route, count_vifs};
 use mr_base::{DaemonNo, Head, LaneNo, Mask};
 use mr_ip::read_head;
@@ -416,13 +417,6 @@ fn machine_of<'a>(
     let mut numbers = [1; 16];
     let machine = first_machine(alloc, limits);
     play_phases(machine, daemons, &mut numbers[..lanes], phases)
-}
-
-/// The phases of a scenario.
-fn phases_of(scenario: &Scenario) -> &[Phase]
-    ensures { result.now ≡ scenario.now.phases }
-{
-    scenario.phases.0.as_slice()
 }
 
 /// How many daemons a scenario has.

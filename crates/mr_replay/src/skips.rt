@@ -5,7 +5,7 @@ ghost use Rattle.mr_replay.specs.Loading.{cause_number, items_in};
 ghost use Rattle.mr_replay.specs.Skipping.{Passes, PassesItem};
 ghost use Rattle.mr_scenario.specs.declared.scenario.Given.TheVariants.{Bytes};
 
-use crate::unbuilt::items_of;
+use crate::parts::items_of;
 use mr_base::{HeadError, LaneNo};
 use mr_ip::read_head;
 use mr_lines::Skip;

@@ -12,13 +12,14 @@ ghost use Rattle.mr_replay.specs.declared.status.Status.TheVariants as status;
 
 use crate::halt::Halt;
 use crate::loading::{Loaded, load};
+use crate::parts::devices_of;
 use crate::playing::play;
 use crate::status::Status;
 use crate::writing::write_run;
 use mr_base::{Clock, Door, Gate, Sink, Store};
 use mr_lines::Skip;
 use mr_model::Limits;
-use mr_scenario::{Named, Scenario};
+use mr_scenario::Scenario;
 use std::alloc::Global;
 use std::sync::Wait;
 use std::thread::Threads;
@@ -47,13 +48,6 @@ fn file_asked(words: &[String]) -> Option<&str>
         }
         _ => None,
     }
-}
-
-/// The devices of a scenario.
-fn devices_of(scenario: &Scenario) -> &[Named]
-    ensures { result.now ≡ scenario.now.devices }
-{
-    scenario.devices.0.as_slice()
 }
 
 /// The text of the history to which a scenario comes.

@@ -6,6 +6,7 @@ ghost use Rattle.mr_replay.specs.Unbuilt.{is_built_request, is_built_script, is_
 ghost use Rattle.mr_scenario.specs.PhaseLines.{is_smc};
 ghost use Rattle.mr_words.specs.Words.{lines_of, words_of};
 
+use crate::parts::{daemons_of, items_of, lines_of, phases_of};
 use mr_model::Request;
 use mr_scenario::{DaemonKind, Given, Item, Phase, Scenario, Script, ScriptLine};
 use mr_words::{next_word, split_line, trimmed};
@@ -90,20 +91,6 @@ fn with_lines(first: Option<u32>, lines: &[ScriptLine]) -> Option<u32>
     least
 }
 
-/// The items of a phase.
-pub fn items_of(phase: &Phase) -> &[Item]
-    ensures { result.now ≡ phase.now.items }
-{
-    phase.items.0.as_slice()
-}
-
-/// The lines of a phase.
-pub fn lines_of(phase: &Phase) -> &[ScriptLine]
-    ensures { result.now ≡ phase.now.script }
-{
-    phase.script.0.as_slice()
-}
-
 fn with_phase(first: Option<u32>, phase: &Phase) -> Option<u32>
     ensures { result ≡ least_with first phase.now }
 {
@@ -162,20 +149,6 @@ fn has_smc(daemons: &[DaemonKind]) -> bool
     ensures { result ≡ list_any is_smc daemons.now }
 {
     daemons.iter().any(|kind| is_smc(kind))
-}
-
-/// The daemons of a scenario.
-fn daemons_of(scenario: &Scenario) -> &[DaemonKind]
-    ensures { result.now ≡ scenario.now.daemons }
-{
-    scenario.daemons.0.as_slice()
-}
-
-/// The phases of a scenario.
-pub fn phases_of(scenario: &Scenario) -> &[Phase]
-    ensures { result.now ≡ scenario.now.phases }
-{
-    scenario.phases.0.as_slice()
 }
 
 /// The line of the first smcroute daemon.

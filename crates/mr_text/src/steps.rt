@@ -2,15 +2,16 @@
 
 ghost use Rattle.std.specs.Prelude.{◌≡◌, [], IfOk, option_and_then};
 ghost use Rattle.mr_lines.specs.Fit.{no_flow};
+ghost use Rattle.mr_lines.specs.declared.line.Line.TheVariants as said;
 ghost use Rattle.mr_text.specs.Answers.{Steps};
 ghost use Rattle.mr_text.specs.Walk.{added, begun, closed, has_no_tail, is_inside, is_next, opened, recorded, released, skipped, step, with_end, with_fate, with_route, with_vif};
 
 use crate::history_text::TextError;
 use crate::orders::{route_follows, skip_follows, vif_follows};
 use crate::reading_state::{Current, State};
-use mr_base::{Addr, Few, List};
+use mr_base::{Addr, DaemonNo, Few, LaneNo, List};
 use mr_lines::{Line, RouteLine, Skip, VifLine};
-use mr_model::{Entry, FastRecord, FateLine, Flow, ReleasedId};
+use mr_model::{Entry, FastRecord, FateLine, Flow, Outcome, ReleasedId, Reply, Request};
 use std::alloc::{AllocError, Global};
 use std::mem;
 
@@ -220,6 +221,68 @@ fn with_room(alloc: Global, count: u64) -> Result<List<FastRecord>, AllocError>
     Ok(List(Vec::with_capacity(alloc, room as usize)?))
 }
 
+/// The first line of a call.
+fn call(
+    line: u32,
+    state: &mut State,
+    number: u64,
+    daemon: DaemonNo,
+    request: Request,
+    reply: Reply,
+) -> Result<(), TextError>
+    ensures { Steps result line state.new (step line state.old (said.Call number daemon request reply)) }
+{
+    let current = Current::Call {
+        daemon,
+        request,
+        reply,
+        released: Few::default(),
+    };
+    open(line, state, number, current)
+}
+
+/// The line of a packet that was decided under the lock.
+fn slow(
+    line: u32,
+    state: &mut State,
+    number: u64,
+    lane: LaneNo,
+    index: u32,
+    look: u32,
+    outcome: Outcome,
+) -> Result<(), TextError>
+    ensures { Steps result line state.new (step line state.old (said.Slow number lane index look outcome)) }
+{
+    let entry = Entry::Slow {
+        lane,
+        index,
+        look,
+        flow: no_flow(),
+        outcome,
+    };
+    add(line, state, number, entry)
+}
+
+/// The first line of a settle.
+fn settle(
+    alloc: Global,
+    line: u32,
+    state: &mut State,
+    number: u64,
+    lane: LaneNo,
+    count: u64,
+) -> Result<(), TextError>
+    ensures { Steps result line state.new (step line state.old (said.Settle number lane count)) }
+{
+    let records = with_room(alloc, count)?;
+    let current = Current::Settle {
+        lane,
+        records,
+        left: count,
+    };
+    open(line, state, number, current)
+}
+
 /// What a line does.
 #[inline(never)]
 pub fn step(alloc: Global, line: u32, state: &mut State, read: Line) -> Result<(), TextError>
@@ -233,16 +296,7 @@ pub fn step(alloc: Global, line: u32, state: &mut State, read: Line) -> Result<(
             daemon,
             request,
             reply,
-        } => {
-            let released = Few::default();
-            let current = Current::Call {
-                daemon,
-                request,
-                reply,
-                released,
-            };
-            open(line, state, number, current)
-        }
+        } => call(line, state, number, daemon, request, reply),
         Line::Released(packet) => release(line, state, packet),
         Line::Slow {
             number,
@@ -250,29 +304,12 @@ pub fn step(alloc: Global, line: u32, state: &mut State, read: Line) -> Result<(
             index,
             look,
             outcome,
-        } => {
-            let entry = Entry::Slow {
-                lane,
-                index,
-                look,
-                flow: no_flow(),
-                outcome,
-            };
-            add(line, state, number, entry)
-        }
+        } => slow(line, state, number, lane, index, look, outcome),
         Line::Settle {
             number,
             lane,
             count,
-        } => {
-            let records = with_room(alloc, count)?;
-            let current = Current::Settle {
-                lane,
-                records,
-                left: count,
-            };
-            open(line, state, number, current)
-        }
+        } => settle(alloc, line, state, number, lane, count),
         Line::Record(fast) => record(line, state, fast),
         Line::Tick { number, daemon, ms } => add(line, state, number, Entry::Tick { daemon, ms }),
         Line::Recv {
