@@ -16,6 +16,10 @@ Word = List ℕ
 abbrev pub spaced : List Word → List ℕ
 spaced ws = join_with_byte 32 ws
 
+-- a line of words: they are parted by one space, and a line feed ends it
+abbrev pub line_bytes : List Word → List ℕ
+line_bytes ws = spaced ws ++ 10 ∷ []
+
 -- a.b.c.d
 unfoldable pub address : Addr → Word
 address a =

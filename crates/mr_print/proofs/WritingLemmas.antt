@@ -3,13 +3,9 @@ use Rattle.std.proofs.Common.{◌≡◌, ℕ, List, [], ◌∷◌, ◌++◌, sym
 use Rattle.std.proofs.lemmas.List.{append_assoc, append-nil}
 use Rattle.std.specs.Prelude.{flat_map}
 use Rattle.std.specs.List.{join_with_byte}
-use Rattle.mr_lines.specs.Forms.{Word}
-use Rattle.mr_print.specs.Written.{led, line_bytes}
-
--- joined words are the first, and the others behind their bytes
-pub joined : (c : ℕ) (w : List ℕ) (ws : List (List ℕ)) → join_with_byte c (w ∷ ws) ≡ w ++ flat_map (λ v. c ∷ v) ws
-joined c w [] = sym (append-nil w)
-joined c w (v ∷ ws) = ap (λ x. w ++ c ∷ x) (joined c v ws)
+use Rattle.mr_lines.specs.Forms.{Word, line_bytes}
+use Rattle.mr_print.specs.Written.{led}
+use Rattle.mr_records.proofs.RowLemmas.{joined}
 
 -- a word, words behind a space each, and a line feed are a line
 pub line_put : (o x y z : List ℕ) (w : Word) (ws : List Word) → x ≡ o ++ w → y ≡ x ++ led ws → z ≡ y ++ 10 ∷ [] → z ≡ o ++ line_bytes (w ∷ ws)

@@ -3,8 +3,6 @@
 
 mod calls;
 mod lines;
-mod records;
-mod rows;
 #[cfg(test)]
 mod tests;
 mod words;
@@ -13,4 +11,3 @@ pub use lines::{
     write_call, write_end, write_fate, write_first, write_phase, write_recv, write_released,
     write_route, write_settle, write_skip, write_slow, write_tick, write_vif,
 };
-pub use records::write_record;

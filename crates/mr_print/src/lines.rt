@@ -2,7 +2,8 @@
 
 ghost use Rattle.std.specs.Prelude.{◌≡◌, ◌++◌, ◌∷◌, codes, decimal, OnOk};
 ghost use Rattle.mr_lines.specs.Lines.{request_words, reply_words, outcome_words, line_words};
-ghost use Rattle.mr_print.specs.Written.{led, line_bytes};
+ghost use Rattle.mr_lines.specs.Forms.{line_bytes};
+ghost use Rattle.mr_print.specs.Written.{led};
 ghost use Rattle.mr_lines.specs.declared.line.Line.TheVariants as line;
 
 use crate::calls::{

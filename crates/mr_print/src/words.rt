@@ -4,10 +4,10 @@ ghost use Rattle.std.specs.Prelude.{◌≡◌, ◌++◌, ◌∷◌, [], decimal,
 ghost use Rattle.mr_lines.specs.Forms.{address, mask, vif_or_none, local_word, thresholds};
 ghost use Rattle.mr_print.specs.Written.{led};
 
-use crate::rows::put_mask;
 use itoa::Buffer;
 use mr_base::{Addr, Mask};
 use mr_model::VifCtl;
+use mr_records::put_mask;
 use std::alloc::AllocError;
 
 /// A number.

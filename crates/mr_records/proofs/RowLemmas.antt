@@ -11,7 +11,11 @@ use Rattle.mr_base.specs.declared.numbers.Mask.{Mask}
 use Rattle.mr_model.specs.Ending.{indexes}
 use Rattle.mr_model.specs.Verdict.{is_in}
 use Rattle.mr_lines.specs.Forms.{mask}
-use Rattle.mr_print.proofs.WritingLemmas.{joined}
+
+-- joined words are the first, and the others behind their bytes
+pub joined : (c : ℕ) (w : List ℕ) (ws : List (List ℕ)) → join_with_byte c (w ∷ ws) ≡ w ++ flat_map (λ v. c ∷ v) ws
+joined c w [] = sym (append-nil w)
+joined c w (v ∷ ws) = ap (λ x. w ++ c ∷ x) (joined c v ws)
 
 -- k numbers from i on
 abbrev pub rising : ℕ → ℕ → List ℕ

@@ -1,6 +1,6 @@
 use Rattle.std.proofs.Common.{arith}
 use Rattle.std.proofs.lemmas.Fmt.{length-decimal-le}
-use Rattle.mr_print.proofs.rows.put_if_in.Goals as goal
+use Rattle.mr_records.proofs.rows.put_if_in.Goals as goal
 
 pub returns-then-outs-vif-eq1-clause-within : goal.returns-then-outs-vif-eq1-clause-within
 returns-then-outs-vif-eq1-clause-within c =

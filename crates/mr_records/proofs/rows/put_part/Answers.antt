@@ -1,7 +1,7 @@
 use Rattle.std.proofs.Common.{◌≡◌, ℕ, ◌+◌, ◌-◌, ◌≤◌, ◌<◌, ◌^◌, length, decimal, ap, arith}
 use Rattle.std.proofs.lemmas.Fmt.{length-decimal-le}
 use Rattle.std.proofs.lemmas.List.{drop-set}
-use Rattle.mr_print.proofs.rows.put_part.Goals as goal
+use Rattle.mr_records.proofs.rows.put_part.Goals as goal
 
 -- a number of 32 bits has at most ten digits
 short : (n : ℕ) → n < 2 ^ 32 → length (decimal n) ≤ 10

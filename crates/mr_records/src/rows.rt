@@ -5,14 +5,16 @@ ghost use Rattle.std.specs.Prelude.{◌≡◌, ◌+◌, ◌^◌, ◌<◌, ◌≤
 ghost use Rattle.mr_model.specs.Ending.{indexes};
 ghost use Rattle.mr_model.specs.Verdict.{is_in};
 ghost use Rattle.mr_lines.specs.Forms.{mask, vif_or_none};
+ghost use Rattle.mr_records.specs.Ways.{way_bytes};
 
+use crate::way::Way;
 use itoa::write_digits;
 use mr_base::Mask;
 
 /// Puts a byte and a number, so that they end at `end`, and answers where they begin.
 #[inline(always)]
-pub fn put_part(row: &mut [u8; 144], end: usize, byte: u8, number: u32) -> usize
-    requires { (11 ≤ end) × (end ≤ 144) }
+pub fn put_part<const N: usize>(row: &mut [u8; N], end: usize, byte: u8, number: u32) -> usize
+    requires { (11 ≤ end) × (end ≤ N) }
     ensures text { drop result row.new ≡ byte ∷ decimal number ++ drop end row.old }
     ensures start { result + (1 + length (decimal number)) ≡ end }
     ensures within { end ≤ result + 11 }
@@ -103,4 +105,24 @@ pub fn put_vif_or_none(row: &mut [u8; 144], end: usize, vif: Option<u8>) -> usiz
         Some(vif) => put_part(row, end, b' ', u32::from(vif)),
         None => put_none(row, end),
     }
+}
+
+/// Puts the line feed.
+#[inline(always)]
+fn put_end(row: &mut [u8; 144])
+    ensures { drop 143 row.new ≡ 10 ∷ [] }
+{
+    row[143] = b'\n';
+}
+
+/// Puts a way at the end of a row, and answers where it begins.
+#[inline(always)]
+pub fn put_way(row: &mut [u8; 144], way: Way) -> usize
+    ensures text { drop result row.new ≡ way_bytes way }
+    ensures within { (23 ≤ result) × (result ≤ 144) }
+{
+    put_end(row);
+    let outs = put_mask(row, 143, way.outs);
+    let input = put_vif_or_none(row, outs, way.input);
+    put_part(row, input, b' ', way.entry)
 }

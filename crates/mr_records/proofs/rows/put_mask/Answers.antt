@@ -1,6 +1,6 @@
 use Rattle.std.proofs.Common.{◌∷◌, ◌++◌, drop, ap, sym, ◌∙◌, arith}
-use Rattle.mr_print.proofs.RowLemmas.{mask_over, mask_is}
-use Rattle.mr_print.proofs.rows.put_mask.Goals as goal
+use Rattle.mr_records.proofs.RowLemmas.{mask_over, mask_is}
+use Rattle.mr_records.proofs.rows.put_mask.Goals as goal
 
 pub bounds-row-at : goal.bounds-row-at
 bounds-row-at c =

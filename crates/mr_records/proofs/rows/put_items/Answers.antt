@@ -1,6 +1,6 @@
 use Rattle.std.proofs.Common.{◌-◌, arith}
-use Rattle.mr_print.proofs.RowLemmas.{items_top, items_down, items_done}
-use Rattle.mr_print.proofs.rows.put_items.Goals as goal
+use Rattle.mr_records.proofs.RowLemmas.{items_top, items_down, items_done}
+use Rattle.mr_records.proofs.rows.put_items.Goals as goal
 
 pub loop-vif-init : goal.loop-vif-init
 loop-vif-init c = record {

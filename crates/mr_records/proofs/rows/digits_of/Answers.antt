@@ -1,6 +1,6 @@
 use Rattle.std.proofs.Common.{◌≡◌, ◌-◌, arith}
 use Rattle.std.proofs.lemmas.Nat.{leading_length}
-use Rattle.mr_print.proofs.rows.digits_of.Goals as goal
+use Rattle.mr_records.proofs.rows.digits_of.Goals as goal
 
 pub returns-clause-above : goal.returns-clause-above
 returns-clause-above c =

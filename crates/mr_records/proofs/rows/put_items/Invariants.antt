@@ -1,6 +1,6 @@
 use Rattle.std.proofs.Common.{◌≡◌, ◌+◌, ◌-◌, ◌*◌, ◌≤◌, ◌++◌, drop}
-use Rattle.mr_print.proofs.RowLemmas.{behind_commas, vifs_from}
-use Rattle.mr_print.proofs.rows.put_items.Given as goal
+use Rattle.mr_records.proofs.RowLemmas.{behind_commas, vifs_from}
+use Rattle.mr_records.proofs.rows.put_items.Given as goal
 
 -- the vifs from the present one on are put
 abbrev pub invariant-loop-vif : goal.invariant-loop-vif

@@ -1,0 +1,91 @@
+//! Records taken off the front of a text.
+
+ghost use Rattle.std.specs.Prelude.{◌≡◌, ◌++◌, ◌∷◌, IfSome, decimal};
+ghost use Rattle.mr_lines.specs.Fit.{RecordFits};
+ghost use Rattle.mr_lines.specs.Forms.{line_bytes};
+ghost use Rattle.mr_lines.specs.Lines.{record_words};
+ghost use Rattle.mr_records.specs.Taking.{Takes, first_record};
+ghost use Rattle.mr_records.specs.Ways.{head_bytes};
+ghost use Rattle.mr_words.specs.Parts.{parts_of};
+
+use crate::ways::Ways;
+use crate::writing::way_of;
+use mr_base::Addr;
+use mr_lines::{leading_number, read_record};
+use mr_model::{FastRecord, Flow};
+use mr_words::split_part;
+
+/// A number of 32 bits, and the bytes behind it.
+#[inline(always)]
+#[tactic(auto, using(crate::proofs::TakingLemmas::number_front))]
+fn number(text: &[u8]) -> Option<(u32, &[u8])>
+    ensures { IfSome result (λ x. text.now ≡ decimal x.0 ++ x.1.now) }
+{
+    let (number, rest) = leading_number(text, u32::MAX)?;
+    Some((number, rest))
+}
+
+/// `- INDEX LOOK`, and the bytes behind it.
+#[inline(always)]
+fn head(text: &[u8]) -> Option<(u32, u32, &[u8])>
+    ensures { IfSome result (λ x. text.now ≡ head_bytes x.0 x.1 ++ x.2.now) }
+{
+    let [b'-', b' ', rest @ ..] = text else {
+        return None;
+    };
+    let (index, rest) = number(rest)?;
+    let [b' ', rest @ ..] = rest else {
+        return None;
+    };
+    let (look, rest) = number(rest)?;
+    Some((index, look, rest))
+}
+
+/// The record in front of a text, if its way is known, and the bytes behind its line.
+#[inline(always)]
+fn known_record<'a>(ways: &Ways, text: &'a [u8]) -> Option<(FastRecord, &'a [u8])>
+    ensures line { IfSome result (λ x. text.now ≡ line_bytes (record_words x.0) ++ x.1.now) }
+    ensures fits { IfSome result (λ x. RecordFits x.0) }
+{
+    let (index, look, rest) = head(text)?;
+    let known = ways.by_bytes(rest);
+    let left = known.behind(rest)?;
+    let record = FastRecord {
+        index,
+        look,
+        entry: known.way.entry,
+        input: known.way.input,
+        outs: known.way.outs,
+        flow: Flow {
+            dev: 0,
+            src: Addr(0),
+            dst: Addr(0),
+            ttl: 0,
+            length: 0,
+        },
+    };
+    Some((record, left))
+}
+
+/// The record in front of a text, if there is one, and the bytes behind its line. Its way is kept.
+#[inline(never)]
+fn any_record<'a>(ways: &mut Ways, text: &'a [u8]) -> Option<(FastRecord, &'a [u8])>
+    ensures { Takes (λ r. r.now) result (first_record (parts_of 10 text.now)) }
+{
+    let (line, rest) = split_part(text, b'\n');
+    let rest = rest?;
+    let record = read_record(line)?;
+    ways.keep_by_bytes(way_of(&record));
+    Some((record, rest))
+}
+
+/// The record in front of a text, if its first line is one and has its line feed, and the bytes behind it.
+#[inline(always)]
+pub fn take_record<'a>(ways: &mut Ways, text: &'a [u8]) -> Option<(FastRecord, &'a [u8])>
+    ensures { Takes (λ r. r.now) result (first_record (parts_of 10 text.now)) }
+{
+    match known_record(ways, text) {
+        Some((record, rest)) => Some((record, rest)),
+        None => any_record(ways, text),
+    }
+}

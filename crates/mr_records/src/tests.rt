@@ -1,0 +1,101 @@
+use super::*;
+use mr_base::{Addr, Mask};
+use mr_model::{FastRecord, Flow};
+use std::test::Fail;
+
+/// A record of entry 50.
+fn record(index: u32, look: u32, input: Option<u8>, outs: u32) -> FastRecord {
+    FastRecord {
+        index,
+        look,
+        entry: 50,
+        input,
+        outs: Mask(outs),
+        flow: Flow {
+            dev: 0,
+            src: Addr(0),
+            dst: Addr(0),
+            ttl: 0,
+            length: 0,
+        },
+    }
+}
+
+/// Six records of three ways, of which the last has more than 32 bytes; each comes once more.
+fn records() -> [FastRecord; 6] {
+    [
+        record(4294967295, 6, Some(0), 6),
+        record(9, 6, Some(0), 6),
+        record(10, 7, None, 0),
+        record(99, 7, None, 0),
+        record(100, 4294967295, Some(255), 0xFFFF_FFFF),
+        record(0, 0, Some(255), 0xFFFF_FFFF),
+    ]
+}
+
+const LINES: &str =
+    "- 4294967295 6 50 0 1,2\n- 9 6 50 0 1,2\n- 10 7 50 - -\n- 99 7 50 - -\n- 100 4294967295 50 255 0,1,2,3,4,5,6,7,8,9,10,11,12,13,14,15,16,17,18,19,20,21,22,23,24,25,26,27,28,29,30,31\n- 0 0 50 255 0,1,2,3,4,5,6,7,8,9,10,11,12,13,14,15,16,17,18,19,20,21,22,23,24,25,26,27,28,29,30,31\n";
+
+#[test]
+fn written(rt: HostRuntime) -> Result<(), Fail> {
+    let mut out = Vec::new(rt.alloc());
+    let mut ways = Ways::new();
+    for record in &records() {
+        write_record(&mut out, &mut ways, record)?;
+    }
+    assert_eq!(rt; out.as_slice(), LINES.as_bytes());
+    Ok(())
+}
+
+#[test]
+fn taken(rt: HostRuntime) -> Result<(), Fail> {
+    let mut ways = Ways::new();
+    let mut rest = LINES.as_bytes();
+    for record in &records() {
+        match take_record(&mut ways, rest) {
+            Some((taken, left)) => {
+                assert_eq!(rt; taken, *record);
+                rest = left;
+            }
+            None => return Err(Fail),
+        }
+    }
+    assert_eq!(rt; rest.len(), 0);
+    Ok(())
+}
+
+/// Whether no record is in front of a text, whether or not its way is known.
+fn refuses(text: &[u8]) -> bool {
+    let mut ways = Ways::new();
+    let first = take_record(&mut ways, text).is_none();
+    let line = b"- 1 2 50 0 1,2\n- 1 2 50 0 1,2\n- 1 2 50 0 1,2\n";
+    let known = take_record(&mut ways, line).is_some();
+    first && known && take_record(&mut ways, text).is_none()
+}
+
+#[test]
+fn near_misses(rt: HostRuntime) -> Result<(), Fail> {
+    let texts = [
+        "- 3 2 50 0 1,2",
+        "- 03 2 50 0 1,2\n- 4 2 50 0 1,2\n- 5 2 50 0 1,2\n",
+        "- 3  2 50 0 1,2\n- 4 2 50 0 1,2\n- 5 2 50 0 1,2\n",
+        "- 3 02 50 0 1,2\n- 4 2 50 0 1,2\n- 5 2 50 0 1,2\n",
+        "- 4294967296 2 50 0 1,2\n- 4 2 50 0 1,2\n- 5 2 50 0 1,2\n",
+        "- 3 4294967296 50 0 1,2\n- 4 2 50 0 1,2\n- 5 2 50 0 1,2\n",
+        "- 3 2 50 0 1,2 \n- 4 2 50 0 1,2\n- 5 2 50 0 1,2\n",
+        "- 3 2 50 0 1,2,\n- 4 2 50 0 1,2\n- 5 2 50 0 1,2\n",
+        "- 3 2 50 0 1,2\r\n- 4 2 50 0 1,2\n- 5 2 50 0 1,2\n",
+        "- 3 250 0 1,2\n- 4 2 50 0 1,2\n- 5 2 50 0 1,2\n",
+        "-3 2 50 0 1,2\n- 4 2 50 0 1,2\n- 5 2 50 0 1,2\n",
+        " - 3 2 50 0 1,2\n- 4 2 50 0 1,2\n- 5 2 50 0 1,2\n",
+        "3 2 50 0 1,2\n- 4 2 50 0 1,2\n- 5 2 50 0 1,2\n",
+        "- 3 2 50 0 2,1\n- 4 2 50 0 1,2\n- 5 2 50 0 1,2\n",
+        "- 1 2 parked\n- 4 2 50 0 1,2\n- 5 2 50 0 1,2\n",
+        "\n- 4 2 50 0 1,2\n- 5 2 50 0 1,2\n- 6 2 50 0 1,2\n",
+        "",
+    ];
+    for text in texts {
+        assert!(rt; refuses(text.as_bytes()));
+    }
+    Ok(())
+}
