@@ -2,8 +2,8 @@ use super::*;
 use mr_base::{Addr, DaemonNo, Errno, FileName, LaneNo, Mask};
 use mr_lines::{RouteLine, Skip, VifLine};
 use mr_model::{
-    Cause, FastRecord, Fate, FateLine, Flow, Kind, MessageId, MfcCtl, MfcKey, Outcome, ReleasedId,
-    Reply, Report, Request, RouteTotals, VifCtl, VifTotals,
+    Cause, Fate, FateLine, Kind, MessageId, MfcCtl, MfcKey, Outcome, ReleasedId, Reply, Report,
+    Request, RouteTotals, VifCtl, VifTotals,
 };
 use std::test::Fail;
 
@@ -212,30 +212,6 @@ fn outcomes_that_do_not(rt: HostRuntime) -> Result<(), Fail> {
     Ok(())
 }
 
-fn record(input: Option<u8>, outs: u32) -> FastRecord {
-    FastRecord {
-        index: 4294967295,
-        look: 6,
-        entry: 50,
-        input,
-        outs: Mask(outs),
-        flow: Flow::default(),
-    }
-}
-
-#[test]
-fn records(rt: HostRuntime) -> Result<(), Fail> {
-    let mut out = Vec::new(rt.alloc());
-    write_settle(&mut out, 7, LaneNo(1), 3)?;
-    write_record(&mut out, &record(Some(0), 6))?;
-    write_record(&mut out, &record(None, 0))?;
-    write_record(&mut out, &record(Some(255), 0xFFFF_FFFF))?;
-    let want =
-        "7 settle 1 3\n- 4294967295 6 50 0 1,2\n- 4294967295 6 50 - -\n- 4294967295 6 50 255 0,1,2,3,4,5,6,7,8,9,10,11,12,13,14,15,16,17,18,19,20,21,22,23,24,25,26,27,28,29,30,31\n";
-    assert_eq!(rt; out.as_slice(), want.as_bytes());
-    Ok(())
-}
-
 fn message(kind: Kind) -> Option<MessageId> {
     Some(MessageId {
         kind,
@@ -246,8 +222,9 @@ fn message(kind: Kind) -> Option<MessageId> {
 }
 
 #[test]
-fn ticks_receives_and_phases(rt: HostRuntime) -> Result<(), Fail> {
+fn settles_ticks_receives_and_phases(rt: HostRuntime) -> Result<(), Fail> {
     let mut out = Vec::new(rt.alloc());
+    write_settle(&mut out, 7, LaneNo(1), 3)?;
     write_tick(&mut out, 9, DaemonNo(1), 1000)?;
     write_recv(&mut out, 10, DaemonNo(1), &None)?;
     write_recv(&mut out, 11, DaemonNo(1), &message(Kind::NoCache))?;
@@ -255,7 +232,7 @@ fn ticks_receives_and_phases(rt: HostRuntime) -> Result<(), Fail> {
     write_recv(&mut out, 13, DaemonNo(1), &message(Kind::WholePkt))?;
     write_phase(&mut out, 14)?;
     let want =
-        "9 tick 1 1000\n10 recv 1 none\n11 recv 1 nocache 2 3 1\n12 recv 1 wrongvif 2 3 1\n13 recv 1 wholepkt 2 3 1\n14 phase\n";
+        "7 settle 1 3\n9 tick 1 1000\n10 recv 1 none\n11 recv 1 nocache 2 3 1\n12 recv 1 wrongvif 2 3 1\n13 recv 1 wholepkt 2 3 1\n14 phase\n";
     assert_eq!(rt; out.as_slice(), want.as_bytes());
     Ok(())
 }

@@ -1,2 +1,4 @@
 pub mod RowLemmas
+pub mod WayLemmas
 pub mod TakingLemmas
+pub mod SameLemmas

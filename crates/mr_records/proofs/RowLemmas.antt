@@ -1,5 +1,5 @@
 -- Texts in an array that grow from their end.
-use Rattle.std.proofs.Common.{◌≡◌, ℕ, Bool, true, false, List, [], ◌∷◌, ◌++◌, map, filter, decimal, length, drop, set, get_or, zero, suc, ◌<◌, ◌≤◌, ◌+◌, ◌-◌, ◌/◌, ◌%◌, ◌^◌, arith, refl, sym, ap, ◌∙◌, append_assoc, drop-cons, length-drop}
+use Rattle.std.proofs.Common.{◌≡◌, ℕ, Bool, true, false, List, [], ◌∷◌, ◌++◌, map, filter, decimal, length, drop, set, get_or, zero, suc, ◌<◌, ◌≤◌, ◌+◌, ◌-◌, ◌/◌, ◌%◌, ◌^◌, arith, refl, sym, ap, ◌∙◌, append-nil, append_assoc, append-nil, drop-cons, length-drop}
 use Rattle.std.proofs.Math.Nat.{div-eq_of_lt, div-one, div-div-eq-div-mul, pow-suc}
 use Rattle.std.proofs.Math.Pow.{pow_mono}
 use Rattle.std.proofs.lemmas.Bool.{eqb-false, ne_eqb}

@@ -1,6 +1,6 @@
 //! Ways whose bytes are known.
 
-ghost use Rattle.std.specs.Prelude.{◌≡◌, ◌<◌, ◌≤◌, ◌++◌, IfSome, MatchOption, length, take};
+ghost use Rattle.std.specs.Prelude.{◌≡◌, ◌<◌, ◌≤◌, ◌++◌, IfSome, MatchOption, drop, length, take};
 ghost use Rattle.mr_records.specs.Ways.{way_bytes};
 
 use crate::rows::put_way;
@@ -20,9 +20,17 @@ pub struct Known {
     pub ghost short: { count ≤ 32 },
 }
 
+/// The bytes from an index on.
+#[inline(always)]
+fn from(bytes: &[u8], index: usize) -> &[u8]
+    requires { index ≤ length bytes.now }
+    ensures { result.now ≡ drop index bytes.now }
+{
+    &bytes[index..]
+}
+
 impl Known {
     /// A way to begin with.
-    #[tactic(auto, unfolding(mr_lines::specs::Forms::mask, mr_lines::specs::Forms::vif_or_none))]
     pub fn first() -> Known {
         Known {
             way: Way {
@@ -57,7 +65,7 @@ impl Known {
     {
         let front = text.first_chunk::<32>()?;
         if self.count <= same_bytes(front, &self.row) {
-            Some(&text[self.count..])
+            Some(from(text, self.count))
         } else {
             None
         }

@@ -9,6 +9,8 @@ use core::simd::prelude::*;
 pub fn same_bytes(a: &[u8; 32], b: &[u8; 32]) -> usize
     ensures { (k : ℕ) → k ≤ 32 → k ≤ result → take k a.now ≡ take k b.now }
 {
-    let differ = u8x32::from_array(*a).simd_ne(u8x32::from_array(*b)).to_bitmask();
+    let differ = u8x32::from_array(*a)
+        .simd_ne(u8x32::from_array(*b))
+        .to_bitmask();
     differ.trailing_zeros() as usize
 }

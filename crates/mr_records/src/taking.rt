@@ -4,10 +4,12 @@ ghost use Rattle.std.specs.Prelude.{◌≡◌, ◌++◌, ◌∷◌, IfSome, deci
 ghost use Rattle.mr_lines.specs.Fit.{RecordFits};
 ghost use Rattle.mr_lines.specs.Forms.{line_bytes};
 ghost use Rattle.mr_lines.specs.Lines.{record_words};
+ghost use Rattle.mr_lines.specs.Reading.{record_of};
 ghost use Rattle.mr_records.specs.Taking.{Takes, first_record};
 ghost use Rattle.mr_records.specs.Ways.{head_bytes};
 ghost use Rattle.mr_words.specs.Parts.{parts_of};
 
+use crate::way::Way;
 use crate::ways::Ways;
 use crate::writing::way_of;
 use mr_base::Addr;
@@ -41,6 +43,28 @@ fn head(text: &[u8]) -> Option<(u32, u32, &[u8])>
     Some((index, look, rest))
 }
 
+/// A record of the fields that its line says.
+#[inline(always)]
+fn record(index: u32, look: u32, way: Way) -> FastRecord
+    ensures is { result ≡ record_of (index, look) (way.entry, (way.input, way.outs)) }
+    ensures fits { RecordFits result }
+{
+    FastRecord {
+        index,
+        look,
+        entry: way.entry,
+        input: way.input,
+        outs: way.outs,
+        flow: Flow {
+            dev: 0,
+            src: Addr(0),
+            dst: Addr(0),
+            ttl: 0,
+            length: 0,
+        },
+    }
+}
+
 /// The record in front of a text, if its way is known, and the bytes behind its line.
 #[inline(always)]
 fn known_record<'a>(ways: &Ways, text: &'a [u8]) -> Option<(FastRecord, &'a [u8])>
@@ -50,21 +74,7 @@ fn known_record<'a>(ways: &Ways, text: &'a [u8]) -> Option<(FastRecord, &'a [u8]
     let (index, look, rest) = head(text)?;
     let known = ways.by_bytes(rest);
     let left = known.behind(rest)?;
-    let record = FastRecord {
-        index,
-        look,
-        entry: known.way.entry,
-        input: known.way.input,
-        outs: known.way.outs,
-        flow: Flow {
-            dev: 0,
-            src: Addr(0),
-            dst: Addr(0),
-            ttl: 0,
-            length: 0,
-        },
-    };
-    Some((record, left))
+    Some((record(index, look, known.way), left))
 }
 
 /// The record in front of a text, if there is one, and the bytes behind its line. Its way is kept.

@@ -47,20 +47,22 @@ fn written(rt: HostRuntime) -> Result<(), Fail> {
     Ok(())
 }
 
-#[test]
-fn taken(rt: HostRuntime) -> Result<(), Fail> {
+/// Whether the lines are these records and nothing more.
+fn takes_all(lines: &str) -> bool {
     let mut ways = Ways::new();
-    let mut rest = LINES.as_bytes();
+    let mut rest = lines.as_bytes();
     for record in &records() {
         match take_record(&mut ways, rest) {
-            Some((taken, left)) => {
-                assert_eq!(rt; taken, *record);
-                rest = left;
-            }
-            None => return Err(Fail),
+            Some((taken, left)) if taken == *record => rest = left,
+            _ => return false,
         }
     }
-    assert_eq!(rt; rest.len(), 0);
+    rest.len() == 0
+}
+
+#[test]
+fn taken(rt: HostRuntime) -> Result<(), Fail> {
+    assert!(rt; takes_all(LINES));
     Ok(())
 }
 

@@ -60,18 +60,22 @@ fn write_part(out: &mut Vec<u8>, row: &[u8; 80], from: usize, to: usize) -> Resu
     Ok(())
 }
 
+/// Puts a way's bytes, from 24 on.
+#[inline(always)]
+fn put_known(row: &mut [u8; 80], known: &Known)
+    ensures { take 32 (drop 24 row.new) ≡ known.now.row }
+{
+    row[24..56].copy_from_slice(&known.row);
+}
+
 /// Puts the line of a record whose way is known.
 #[inline(always)]
-fn write_known(
-    out: &mut Vec<u8>,
-    packet: &FastRecord,
-    known: &Known,
-) -> Result<(), AllocError>
+fn write_known(out: &mut Vec<u8>, packet: &FastRecord, known: &Known) -> Result<(), AllocError>
     requires { known.now.way ≡ way_of packet.now }
     ensures { OnOk result (out.new.items ≡ out.old.items ++ line_bytes (record_words packet.now)) }
 {
     let mut row = [0u8; 80];
-    row[24..56].copy_from_slice(&known.row);
+    put_known(&mut row, known);
     let at = put_head(&mut row, 24, packet);
     write_part(out, &row, at, 24 + known.count)
 }

@@ -12,6 +12,7 @@ use mr_base::{FileName, List, Route, VifRecord};
 use mr_lines::{RouteLine, Skip, Tail, VifLine};
 use mr_model::{Outcome, RouteTotals, VifTotals};
 use mr_print::{write_end, write_first, write_slow};
+use mr_records::Ways;
 use mr_scenario::Named;
 use mr_text::{write_entry, write_skips, write_tail};
 use std::alloc::{AllocError, Global};
@@ -92,7 +93,12 @@ fn vif_lines(
 }
 
 /// The lines of an entry of the journal.
-fn write_kept(out: &mut Vec<u8>, number: u64, kept: &Kept) -> Result<(), AllocError>
+fn write_kept(
+    out: &mut Vec<u8>,
+    ways: &mut Ways,
+    number: u64,
+    kept: &Kept,
+) -> Result<(), AllocError>
     ensures { OnOk result (out.new.items ≡ out.old.items ++ flat_map line_text (entry_lines number (entry_of kept.now))) }
 {
     match kept {
@@ -104,7 +110,7 @@ fn write_kept(out: &mut Vec<u8>, number: u64, kept: &Kept) -> Result<(), AllocEr
             };
             write_slow(out, number, f.lane, f.index, f.look, &outcome)
         }
-        Kept::Other(entry) => write_entry(out, number, &**entry),
+        Kept::Other(entry) => write_entry(out, ways, number, &**entry),
     }
 }
 
@@ -113,8 +119,9 @@ fn write_journal(out: &mut Vec<u8>, entries: &[Kept]) -> Result<(), AllocError>
     ensures { OnOk result (out.new.items ≡ out.old.items ++ flat_map line_text (entries_lines 1 (map entry_of entries.now))) }
 {
     let mut number = 1u64;
+    let mut ways = Ways::new();
     for kept in entries {
-        write_kept(out, number, kept)?;
+        write_kept(out, &mut ways, number, kept)?;
         number = number.saturating_add(1);
     }
     Ok(())

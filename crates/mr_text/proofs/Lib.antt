@@ -7,3 +7,4 @@ pub mod Pieces
 pub mod Finding
 pub mod TextLaws
 pub mod Beginning
+pub mod Records

@@ -3,6 +3,7 @@ use Rattle.std.proofs.Common.{◌≡◌, ℕ, zero, suc, ◌+◌, ◌==◌, ◌&
 use Rattle.std.specs.Prelude.{if◌then◌else◌, flat_map, option_and_then, take}
 use Rattle.std.specs.List.{AllByRecursion, join_with_byte}
 use Rattle.std.proofs.lemmas.Bool.{and_parts}
+use Rattle.mr_lines.proofs.PartLaws.{line_first}
 use Rattle.mr_lines.specs.Fit.{LineFits}
 use Rattle.mr_lines.specs.Forms.{spaced}
 use Rattle.mr_lines.specs.Laws.{LineAgain, LineSplits, LineIsOne, is_one_line}
@@ -30,23 +31,9 @@ use Rattle.mr_words.specs.Parts.{before, parts_behind, parts_of}
 abbrev pub piece : Line → List ℕ
 piece l = spaced (line_words l)
 
-is_not : (b : Bool) → not b ≡ true → b ≡ false
-is_not true e = absurd (cc e)
-is_not false e = refl
-
-cut : (p rest : List ℕ) → is_one_line p ≡ true → (before 10 (p ++ 10 ∷ rest) ≡ p) × (parts_behind 10 (p ++ 10 ∷ rest) ≡ parts_of 10 rest)
-cut [] rest e = (refl, refl)
-cut (b ∷ p) rest e =
-    let both : (not (b == 10) ≡ true) × (is_one_line p ≡ true) = and_parts (not (b == 10)) (is_one_line p) e in
-    let other : (b == 10) ≡ false = is_not (b == 10) both.0 in
-    let inner : (before 10 (p ++ 10 ∷ rest) ≡ p) × (parts_behind 10 (p ++ 10 ∷ rest) ≡ parts_of 10 rest) = cut p rest both.1 in
-    rw other (ap (λ l. b ∷ l) inner.0, inner.1)
-
 -- A line in front of bytes is one piece in front of theirs.
 cut_line : LineIsOne → (l : Line) (rest : List ℕ) → LineFits l → parts_of 10 (line_text l ++ rest) ≡ piece l ∷ parts_of 10 rest
-cut_line one l rest fits =
-    let both : (before 10 (piece l ++ 10 ∷ rest) ≡ piece l) × (parts_behind 10 (piece l ++ 10 ∷ rest) ≡ parts_of 10 rest) = cut (piece l) rest (one l fits) in
-    ap (parts_of 10) (append_assoc (piece l) (10 ∷ []) rest) ∙ ap (λ p. p ∷ parts_behind 10 (piece l ++ 10 ∷ rest)) both.0 ∙ ap (λ ps. piece l ∷ ps) both.1
+cut_line one l rest fits = ap (parts_of 10) (append_assoc (piece l) (10 ∷ []) rest) ∙ line_first (piece l) rest (one l fits)
 
 cut_lines : LineIsOne → (ls : List Line) → AllByRecursion LineFits ls → parts_of 10 (flat_map line_text ls) ≡ map piece ls ++ [] ∷ []
 cut_lines one [] fits = refl

@@ -1,18 +1,22 @@
 //! A history is read from its text.
 
 ghost use Rattle.std.specs.Prelude.{◌≡◌, IfOk};
-ghost use Rattle.mr_text.specs.Answers.{Gives, Steps};
+ghost use Rattle.mr_base.specs.declared.numbers.LaneNo.{LaneNo};
+ghost use Rattle.mr_text.specs.Answers.{Gives, GoesOn, Steps, settling};
+ghost use Rattle.mr_text.specs.declared.reading_state.State.{State};
 ghost use Rattle.mr_text.specs.Text.{text};
 ghost use Rattle.mr_text.specs.Walk.{first_state, last_line, line_step, parts_result, walked};
 ghost use Rattle.mr_text.specs.Whole.{PartsFit, first_lines};
 
 use crate::history_text::{HistoryText, TextError};
 use crate::reading_state::{Current, State};
-use crate::steps::{record, step};
+use crate::steps::step;
 use mr_base::List;
-use mr_lines::{Tail, read_line, read_record};
+use mr_lines::{Tail, read_line};
+use mr_model::FastRecord;
+use mr_records::{Ways, take_record};
 use mr_words::split_part;
-use std::alloc::Global;
+use std::alloc::{AllocError, Global};
 
 /// Before the first line.
 fn first_state(alloc: Global) -> State
@@ -31,37 +35,61 @@ fn first_state(alloc: Global) -> State
     }
 }
 
-/// Whether the next line has to be a record.
-#[inline(always)]
-fn is_record_due(state: &State) -> bool {
-    match &state.current {
-        Current::Settle { left, .. } => *left > 0,
-        _ => false,
+/// Reads records, as many as are due, as long as the next lines are some. They are the most of all lines.
+#[inline(never)]
+fn take_records<'a>(
+    ways: &mut Ways,
+    line: &mut u32,
+    records: &mut Vec<FastRecord>,
+    left: &mut u64,
+    text: &'a [u8],
+) -> Result<&'a [u8], AllocError>
+    ensures { IfOk result (λ rest. (s : State) (lane : LaneNo) → GoesOn line.old (settling s lane records.old.items left.old) text.now line.new (settling s lane records.new.items left.new) rest.now) }
+{
+    let mut rest = text;
+    'records: while *left > 0 {
+        match take_record(ways, rest) {
+            None => return Ok(rest),
+            Some((record, after)) => {
+                records.push(record)?;
+                *left -= 1;
+                *line = line.saturating_add(1);
+                rest = after;
+            }
+        }
+    }
+    Ok(rest)
+}
+
+/// Reads the records of the current settle, if they are due, as long as the next lines are some.
+fn take_due<'a>(
+    ways: &mut Ways,
+    line: &mut u32,
+    state: &mut State,
+    text: &'a [u8],
+) -> Result<&'a [u8], AllocError>
+    ensures { IfOk result (λ rest. GoesOn line.old state.old text.now line.new state.new rest.now) }
+{
+    match &mut state.current {
+        Current::Settle { records, left, .. } => take_records(
+            ways,
+            line,
+            &mut records.0,
+            left,
+            text,
+        ),
+        _ => Ok(text),
     }
 }
 
 /// What the bytes of any line do.
-#[inline(never)]
-fn take_any(alloc: Global, line: u32, state: &mut State, bytes: &[u8]) -> Result<(), TextError>
+fn take_line(alloc: Global, line: u32, state: &mut State, bytes: &[u8]) -> Result<(), TextError>
     ensures { Steps result line state.new (line_step line state.old bytes.now) }
 {
     match read_line(bytes) {
         None => Err(TextError::Line(line)),
         Some(read) => step(alloc, line, state, read),
     }
-}
-
-/// What the bytes of a line do. Records are the most of all lines, so they are pushed as they are read.
-#[inline(always)]
-fn take_line(alloc: Global, line: u32, state: &mut State, bytes: &[u8]) -> Result<(), TextError>
-    ensures { Steps result line state.new (line_step line state.old bytes.now) }
-{
-    if is_record_due(state) {
-        if let Some(fast) = read_record(bytes) {
-            return record(line, state, fast);
-        }
-    }
-    take_any(alloc, line, state, bytes)
 }
 
 /// The parts, where `end` was the last line and no byte stands behind its line feed.
@@ -95,7 +123,9 @@ pub fn read_history(alloc: Global, bytes: &[u8]) -> Result<HistoryText, TextErro
     let mut state = first_state(alloc);
     let mut line = 1u32;
     let mut rest = bytes;
+    let mut ways = Ways::new();
     'lines: loop {
+        rest = take_due(&mut ways, &mut line, &mut state, rest)?;
         match split_part(rest, b'\n') {
             (piece, None) => return whole(line, state, piece),
             (piece, Some(after)) => {

@@ -115,8 +115,7 @@ fn release(line: u32, state: &mut State, packet: ReleasedId) -> Result<(), TextE
 }
 
 /// A record of the current settle.
-#[inline(always)]
-pub fn record(line: u32, state: &mut State, fast: FastRecord) -> Result<(), TextError>
+fn record(line: u32, state: &mut State, fast: FastRecord) -> Result<(), TextError>
     ensures { Steps result line state.new (recorded state.old fast state.old.current) }
 {
     match &mut state.current {
@@ -284,7 +283,6 @@ fn settle(
 }
 
 /// What a line does.
-#[inline(never)]
 pub fn step(alloc: Global, line: u32, state: &mut State, read: Line) -> Result<(), TextError>
     ensures { Steps result line state.new (step line state.old read) }
 {

@@ -8,9 +8,10 @@ use mr_base::{DaemonNo, LaneNo, Memory};
 use mr_lines::{RouteLine, Skip, Tail, VifLine};
 use mr_model::{Entry, FastRecord, FateLine, ReleasedId, Reply, Request};
 use mr_print::{
-    write_call, write_end, write_fate, write_first, write_phase, write_record, write_recv,
-    write_released, write_route, write_settle, write_skip, write_slow, write_tick, write_vif,
+    write_call, write_end, write_fate, write_first, write_phase, write_recv, write_released,
+    write_route, write_settle, write_skip, write_slow, write_tick, write_vif,
 };
+use mr_records::{Ways, write_record};
 use std::alloc::{AllocError, Global};
 
 /// The lines of the items that are no packets.
@@ -34,11 +35,15 @@ fn write_released_lines(out: &mut Vec<u8>, packets: &[ReleasedId]) -> Result<(),
 }
 
 /// The lines of a settle's records.
-fn write_records(out: &mut Vec<u8>, packets: &[FastRecord]) -> Result<(), AllocError>
+fn write_records(
+    out: &mut Vec<u8>,
+    ways: &mut Ways,
+    packets: &[FastRecord],
+) -> Result<(), AllocError>
     ensures { OnOk result (out.new.items ≡ out.old.items ++ flat_map line_text (map line.Record packets.now)) }
 {
     for packet in packets {
-        write_record(out, packet)?;
+        write_record(out, ways, packet)?;
     }
     Ok(())
 }
@@ -62,6 +67,7 @@ fn write_call_lines(
 /// The lines of a settle.
 fn write_settle_lines(
     out: &mut Vec<u8>,
+    ways: &mut Ways,
     number: u64,
     lane: LaneNo,
     packets: &[FastRecord],
@@ -69,12 +75,17 @@ fn write_settle_lines(
     ensures { OnOk result (out.new.items ≡ out.old.items ++ flat_map line_text (line.Settle number lane (length packets.now) ∷ map line.Record packets.now)) }
 {
     write_settle(out, number, lane, packets.len() as u64)?;
-    write_records(out, packets)?;
+    write_records(out, ways, packets)?;
     Ok(())
 }
 
-/// The lines of an entry.
-pub fn write_entry(out: &mut Vec<u8>, number: u64, entry: &Entry) -> Result<(), AllocError>
+/// The lines of an entry. The ways of its records are found in those that were kept, or kept.
+pub fn write_entry(
+    out: &mut Vec<u8>,
+    ways: &mut Ways,
+    number: u64,
+    entry: &Entry,
+) -> Result<(), AllocError>
     ensures { OnOk result (out.new.items ≡ out.old.items ++ flat_map line_text (entry_lines number entry.now)) }
 {
     match entry {
@@ -92,7 +103,7 @@ pub fn write_entry(out: &mut Vec<u8>, number: u64, entry: &Entry) -> Result<(), 
             ..
         } => write_slow(out, number, *lane, *index, *look, outcome),
         Entry::Settle { lane, records } => {
-            write_settle_lines(out, number, *lane, records.0.as_slice())
+            write_settle_lines(out, ways, number, *lane, records.0.as_slice())
         }
         Entry::Tick { daemon, ms } => write_tick(out, number, *daemon, *ms),
         Entry::Recv { daemon, message } => write_recv(out, number, *daemon, message),
@@ -105,8 +116,9 @@ fn write_entries(out: &mut Vec<u8>, entries: &[Entry]) -> Result<(), AllocError>
     ensures { OnOk result (out.new.items ≡ out.old.items ++ flat_map line_text (entries_lines 1 entries.now)) }
 {
     let mut number = 1u64;
+    let mut ways = Ways::new();
     for entry in entries {
-        write_entry(out, number, entry)?;
+        write_entry(out, &mut ways, number, entry)?;
         number = number.saturating_add(1);
     }
     Ok(())

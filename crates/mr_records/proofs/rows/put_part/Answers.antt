@@ -8,14 +8,14 @@ short : (n : ℕ) → n < 2 ^ 32 → length (decimal n) ≤ 10
 short n l = length-decimal-le 10 n (omega arith) (omega arith) (omega arith)
 
 pub write_digits-at-requires : goal.write_digits-at-requires
-write_digits-at-requires c = (omega (arith, short c.args.number c.ranges.number.fits, ap (λ n. length (decimal n)) c.from.ensures), omega arith)
+write_digits-at-requires g c = (omega (arith, short c.args.number c.ranges.number.fits, ap (λ n. length (decimal n)) c.from.ensures), omega arith)
 
 pub overflow_sub-at : goal.overflow_sub-at
-overflow_sub-at c =
+overflow_sub-at g c =
     omega (arith, short c.args.number c.ranges.number.fits, ap (λ n. length (decimal n)) c.from.ensures, c.write_digits-at.ensures.start)
 
 pub returns-clause-text : goal.returns-clause-text
-returns-clause-text c =
+returns-clause-text g c =
     let w = c.write_digits-at in
     let small = short c.args.number c.ranges.number.fits in
     let same = ap (λ n. length (decimal n)) c.from.ensures in
@@ -23,9 +23,9 @@ returns-clause-text c =
     rw (drop-set w.new.buf (w.result - 1) c.args.byte (omega (arith, small, same, w.ensures.start)), e, w.ensures.written, c.from.ensures)
 
 pub returns-clause-start : goal.returns-clause-start
-returns-clause-start c =
+returns-clause-start g c =
     omega (arith, short c.args.number c.ranges.number.fits, ap (λ n. length (decimal n)) c.from.ensures, c.write_digits-at.ensures.start)
 
 pub returns-clause-within : goal.returns-clause-within
-returns-clause-within c =
+returns-clause-within g c =
     omega (arith, short c.args.number c.ranges.number.fits, ap (λ n. length (decimal n)) c.from.ensures, c.write_digits-at.ensures.start)
