@@ -3,11 +3,12 @@ use Rattle.std.proofs.Common.{◌≡◌, ℕ, zero, suc, ◌+◌, ◌<◌, ◌�
 use Rattle.std.proofs.lemmas.Bool.{and_from, cases_Bool}
 use Rattle.std.specs.List.{list_all, join_with_byte}
 use Rattle.std.specs.Prelude.{if◌then◌else◌}
+use Rattle.mr_words.specs.Items.{pair_of, item_parts, item_of}
 use Rattle.mr_words.specs.Numbers.{number_of}
 use Rattle.mr_words.specs.Parts.{parts_of}
 use Rattle.mr_lines.specs.Forms.{Word, thresholds}
 use Rattle.mr_lines.specs.Laws.{is_free, are_free}
-use Rattle.mr_lines.specs.Words.{number8, threshold, item_parts, item_of, asked_for, first_for, onto, ttls_from}
+use Rattle.mr_lines.specs.Words.{asked_for, first_for, onto, ttls_from}
 use Rattle.mr_lines.proofs.NumberLaws.{number_takes, number_again, decimal_digits, digits_lack, digits_free}
 use Rattle.mr_lines.proofs.PartLaws.{joined_parts, parts_joined, joined_free}
 
@@ -16,9 +17,9 @@ abbrev pub item : ℕ → ℕ → Word
 item v t = decimal v ++ 58 ∷ decimal t
 
 parts_take : (ps : List Word) (p : ℕ × ℕ) → item_parts ps ≡ Some p → (join_with_byte 58 ps ≡ item p.0 p.1) × (p.1 ≤ 255)
-parts_take (v ∷ t ∷ []) p e = by_case (number_of 31 v) (number8 t) refl refl e
+parts_take (v ∷ t ∷ []) p e = by_case (number_of 31 v) (number_of 255 t) refl refl e
   where
-    by_case : (a b : Option ℕ) → number_of 31 v ≡ a → number8 t ≡ b → threshold a b ≡ Some p → (join_with_byte 58 (v ∷ t ∷ []) ≡ item p.0 p.1) × (p.1 ≤ 255)
+    by_case : (a b : Option ℕ) → number_of 31 v ≡ a → number_of 255 t ≡ b → pair_of a b ≡ Some p → (join_with_byte 58 (v ∷ t ∷ []) ≡ item p.0 p.1) × (p.1 ≤ 255)
     by_case None b reads reads_on given = absurd (cc)
     by_case (Some a) None reads reads_on given = absurd (cc)
     by_case (Some a) (Some b) reads reads_on given =

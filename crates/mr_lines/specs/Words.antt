@@ -10,6 +10,7 @@ use Rattle.mr_model.specs.declared.outcome.Cause.{Cause}
 use Rattle.mr_model.specs.declared.outcome.Cause.TheVariants as cause
 use Rattle.mr_model.specs.declared.outcome.Report.{Report}
 use Rattle.mr_model.specs.declared.outcome.Report.TheVariants as report
+use Rattle.mr_words.specs.Items.{item_of}
 use Rattle.mr_words.specs.Numbers.{number_of, address_of}
 use Rattle.mr_words.specs.Parts.{parts_of}
 use Rattle.mr_lines.specs.Fit.{is_vif_name}
@@ -62,19 +63,7 @@ at_number (b ∷ w) = if b == 64 then number32 w else None
 abbrev pub local_of : ℕ → Word → Option ℕ
 local_of flags w = if flags == 8 then at_number w else address_of w
 
-abbrev pub threshold : Option ℕ → Option ℕ → Option (ℕ × ℕ)
-threshold (Some v) (Some t) = Some (v, t)
-threshold _ _ = None
-
-abbrev pub item_parts : List Word → Option (ℕ × ℕ)
-item_parts (v ∷ t ∷ []) = threshold (number_of 31 v) (number8 t)
-item_parts _ = None
-
--- `V:T`
-abbrev pub item_of : Word → Option (ℕ × ℕ)
-item_of w = item_parts (parts_of 58 w)
-
--- the threshold that an item asks for vif i, or 0
+-- the threshold that an item `V:T` asks for vif i, or 0
 abbrev pub asked_for : ℕ → Option (ℕ × ℕ) → ℕ
 asked_for i None = 0
 asked_for i (Some item) = if item.0 == i then item.1 else 0

@@ -1,33 +1,19 @@
 //! The items `V:T` of a request.
 
-ghost use Rattle.std.specs.Prelude.{◌≡◌, ◌≤◌, ◌==◌, if◌then◌else◌, IfSome, drop};
+ghost use Rattle.std.specs.Prelude.{◌≡◌, ◌==◌, if◌then◌else◌, drop};
 ghost use Rattle.mr_lines.specs.Bytes.{behind};
-ghost use Rattle.mr_lines.specs.Words.{item_of, asked_for, first_for, ttls_from};
+ghost use Rattle.mr_lines.specs.Words.{asked_for, first_for, ttls_from};
+ghost use Rattle.mr_words.specs.Items.{item_of};
 
 use crate::cursor::next_word;
-use mr_words::{number_of, split_part};
-
-/// `V:T`, a vif and its threshold.
-fn item_of(word: &[u8]) -> Option<(u32, u32)>
-    ensures value { result ≡ item_of word.now }
-    ensures within { IfSome result (λ i. i.1 ≤ 255) }
-{
-    let (vif, rest) = split_part(word, b':');
-    let (ttl, rest) = split_part(rest?, b':');
-    if rest.is_some() {
-        return None;
-    }
-    let vif = number_of(vif, 31)?;
-    let ttl = number_of(ttl, 255)?;
-    Some((vif, ttl))
-}
+use mr_words::item_of;
 
 /// The threshold that a word asks for vif i, or 0.
 fn asked_for(i: u32, word: &[u8]) -> u8
     ensures { result ≡ asked_for i (item_of word.now) }
 {
     match item_of(word) {
-        Some((vif, ttl)) => { if vif == i { ttl as u8 } else { 0 } }
+        Some((vif, ttl)) => { if u32::from(vif) == i { ttl } else { 0 } }
         None => 0,
     }
 }

@@ -14,7 +14,7 @@ use Rattle.mr_scenario.specs.declared.scenario.ScriptLine.{ScriptLine}
 use Rattle.mr_replay.specs.Loading.{from_on}
 use Rattle.mr_replay.specs.Made.{sent_in, sent, asked_in, asked, of_daemon}
 use Rattle.mr_replay.specs.Played.{play_lines, play_daemons, lines_of}
-use Rattle.mr_replay.proofs.LawBinds.{bind_ok, same_ok}
+use Rattle.mr_words.proofs.Binds.{bind_ok, same_ok}
 use Rattle.mr_replay.proofs.LawSame.{Same, same_then}
 use Rattle.mr_replay.proofs.LawLines.{Plays, lines_play}
 

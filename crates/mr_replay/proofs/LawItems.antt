@@ -24,7 +24,7 @@ use Rattle.mr_scenario.specs.declared.scenario.Item.{Item}
 use Rattle.mr_replay.specs.Made.{Sent, sent, asked, flow_of, packet_of, packets_from, items_of}
 use Rattle.mr_replay.specs.Played.{with_outcome, play_given, play_item, play_items}
 use Rattle.mr_words.specs.Binds.{◌>>=◌}
-use Rattle.mr_replay.proofs.LawBinds.{bind_ok, same_ok, at_true, at_false}
+use Rattle.mr_words.proofs.Binds.{bind_ok, same_ok, at_true, at_false}
 use Rattle.mr_replay.proofs.LawLooks.{own_before_within, end_within}
 use Rattle.mr_replay.proofs.LawSame.{lane_no, Same, same_then}
 

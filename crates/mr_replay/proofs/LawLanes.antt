@@ -12,7 +12,7 @@ use Rattle.mr_scenario.specs.declared.scenario.Item.{Item}
 use Rattle.mr_replay.specs.Loading.{from_on}
 use Rattle.mr_replay.specs.Made.{Sent, sent_in, sent, asked_in, asked, packets_from, items_of}
 use Rattle.mr_replay.specs.Played.{play_items, play_lanes}
-use Rattle.mr_replay.proofs.LawBinds.{bind_ok, same_ok}
+use Rattle.mr_words.proofs.Binds.{bind_ok, same_ok}
 use Rattle.mr_replay.proofs.LawItems.{PlaysItems, HasRoom, items_play}
 use Rattle.mr_replay.proofs.LawLimits.{AllRoom}
 use Rattle.mr_replay.proofs.LawPackets.{items_append, packets_split}

@@ -27,7 +27,7 @@ use Rattle.mr_replay.specs.Loading.{one_to, items_in, run_limits}
 use Rattle.mr_replay.specs.Made.{PartOf, MadeFrom, Sent, sent_in, sent, asked_in, asked, packets_from, items_of}
 use Rattle.mr_replay.specs.Played.{play_daemons, play_lanes, play_phase, play_phases}
 use Rattle.mr_words.specs.Binds.{◌>>=◌}
-use Rattle.mr_replay.proofs.LawBinds.{bind_ok, same_ok}
+use Rattle.mr_words.proofs.Binds.{bind_ok, same_ok}
 use Rattle.mr_replay.proofs.LawDaemons.{PlaysDaemons, all_daemons_play}
 use Rattle.mr_replay.proofs.LawLanes.{AllAt, PlaysLanes, at_same, lanes_play}
 use Rattle.mr_replay.proofs.LawLimits.{AllRoom, run_room}

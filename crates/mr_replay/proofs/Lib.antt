@@ -1,7 +1,6 @@
 pub mod Skipped
 pub mod Counting
 pub mod AllBytes
-pub mod LawBinds
 pub mod LawLooks
 pub mod LawSame
 pub mod LawLines

@@ -25,7 +25,7 @@ use Rattle.mr_scenario.specs.declared.stop.ScenarioError.{ScenarioError}
 use Rattle.mr_scenario.specs.declared.stop.ScenarioError.TheVariants as error
 use Rattle.mr_text.specs.Text.{text}
 use Rattle.mr_words.specs.Binds.{◌>>=◌}
-use Rattle.mr_replay.proofs.LawBinds.{bind_ok}
+use Rattle.mr_words.proofs.Binds.{bind_ok}
 use Rattle.mr_replay.proofs.LawFates.{built_bare}
 use Rattle.mr_replay.proofs.LawPhases.{played_legal}
 

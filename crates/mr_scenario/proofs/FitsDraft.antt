@@ -29,7 +29,8 @@ use Rattle.mr_scenario.specs.Spelled.{head_line, phase_part, line_in, line_of, n
 use Rattle.mr_words.specs.Names.{is_device_name, is_file}
 use Rattle.mr_words.specs.Numbers.{is_numeral, digit_on, number_of}
 use Rattle.mr_words.specs.Words.{lines_of, without_return, words_of}
-use Rattle.mr_scenario.proofs.Binds.{ok_then, then_ok, wanted, ok_if, ok_bad, some_if, unwrapped}
+use Rattle.mr_scenario.proofs.Binds.{wanted, ok_bad}
+use Rattle.mr_words.proofs.Binds.{ok_then, then_ok, ok_if, some_if, unwrapped}
 use Rattle.mr_scenario.proofs.Each.{all_weaker, all_push, all_front, all_last}
 
 -- from this least number to that greatest one

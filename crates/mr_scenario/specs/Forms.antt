@@ -6,8 +6,8 @@ use Rattle.mr_scenario.specs.declared.scenario.Named.{Named}
 use Rattle.mr_scenario.specs.declared.stop.Kind.{Kind}
 use Rattle.mr_scenario.specs.declared.stop.Kind.TheVariants as kind
 use Rattle.mr_words.specs.Binds.{◌>>=◌}
+use Rattle.mr_words.specs.Items.{item_of}
 use Rattle.mr_words.specs.Numbers.{is_digit, number_of, address_of}
-use Rattle.mr_words.specs.Parts.{parts_of}
 
 -- a number of at least and at most so much
 abbrev pub number_in : ℕ → ℕ → List ℕ → Option ℕ
@@ -37,19 +37,7 @@ abbrev pub local_word : List ℕ → Result ℕ Kind
 local_word [] = Err kind.Address
 local_word (b ∷ w) = if b == 64 then word_as (number_of 4294967295 w) w kind.Number else address_word (b ∷ w)
 
-abbrev pub pair_of : Option ℕ → Option ℕ → Option (ℕ × ℕ)
-pair_of (Some a) (Some b) = Some (a, b)
-pair_of _ _ = None
-
-abbrev pub two_parts : List (List ℕ) → Option (ℕ × ℕ)
-two_parts (v ∷ t ∷ []) = pair_of (number_of 31 v) (number_of 255 t)
-two_parts _ = None
-
--- `V:T`: a vif, 0 to 31, and its threshold, 0 to 255
-abbrev pub item_of : List ℕ → Option (ℕ × ℕ)
-item_of w = two_parts (parts_of 58 w)
-
--- The thresholds with those of further items: each vif stands once.
+-- The thresholds with those of further items `V:T`: each vif stands once.
 abbrev pub thresholds_from : List ℕ → List Bool → List (List ℕ) → Result (List ℕ) Kind
 thresholds_from ttls seen [] = Ok ttls
 thresholds_from ttls seen (w ∷ ws) = word_as (item_of w) w kind.Threshold >>= λ i. if slice_index_or seen i.0 false then Err kind.Threshold else thresholds_from (slice_set ttls i.0 i.1) (slice_set seen i.0 true) ws

@@ -1,13 +1,13 @@
 //! The forms of single words: numbers, addresses, names of devices, local fields, thresholds.
 
-ghost use Rattle.std.specs.Prelude.{◌≡◌, ◌≤◌, false, length, replicate, IfOk, IfSome};
+ghost use Rattle.std.specs.Prelude.{◌≡◌, ◌≤◌, false, length, replicate, IfOk};
 ghost use Rattle.mr_scenario.specs.Kinds.{bad};
-ghost use Rattle.mr_scenario.specs.Forms.{number_in, number_word, address_word, is_taken, device_of, local_word, item_of, thresholds_from};
+ghost use Rattle.mr_scenario.specs.Forms.{number_in, number_word, address_word, is_taken, device_of, local_word, thresholds_from};
 ghost use Rattle.mr_words.specs.Words.{words_of};
 
 use crate::scenario::Named;
 use crate::stop::Kind;
-use mr_words::{address_of, is_clean, next_word, number_of, split_part};
+use mr_words::{address_of, is_clean, item_of, next_word, number_of};
 
 /// What is wrong with a refused word: a byte that may not stand in it comes before all else.
 pub fn bad(word: &[u8], kind: Kind) -> Kind
@@ -79,22 +79,7 @@ pub fn local_word(word: &[u8]) -> Result<u32, Kind>
     }
 }
 
-/// `V:T`, a vif and its threshold.
-fn item_of(word: &[u8]) -> Option<(u8, u8)>
-    ensures value { result ≡ item_of word.now }
-    ensures within { IfSome result (λ i. i.0 ≤ 31) }
-{
-    let (vif, rest) = split_part(word, b':');
-    let (ttl, rest) = split_part(rest?, b':');
-    if rest.is_some() {
-        return None;
-    }
-    let vif = number_of(vif, 31)?;
-    let ttl = number_of(ttl, 255)?;
-    Some((vif as u8, ttl as u8))
-}
-
-/// The thresholds that words give, each vif once; 0 for a vif that is not given.
+/// The thresholds that words `V:T` give, each vif once; 0 for a vif that is not given.
 pub fn thresholds(words: &[u8]) -> Result<[u8; 32], Kind>
     ensures { result ≡ thresholds_from (replicate 32 0) (replicate 32 false) (words_of words.now) }
 {

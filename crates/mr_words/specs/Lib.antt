@@ -3,3 +3,4 @@ pub mod Parts
 pub mod Numbers
 pub mod Names
 pub mod Binds
+pub mod Items

@@ -1,7 +1,9 @@
-//! Texts cut into lines and words, and what single words spell: numbers, addresses, names of devices and files.
+//! Texts cut into lines and words, and what single words spell: numbers, addresses, items `V:T`, names of devices
+//! and files.
 #![tactic(auto)]
 
 mod cursor;
+mod items;
 mod names;
 mod numbers;
 mod parts;
@@ -9,6 +11,7 @@ mod parts;
 mod tests;
 
 pub use cursor::{next_word, past, split_line, trimmed};
+pub use items::item_of;
 pub use names::{is_clean, is_device_name, is_file, name_of};
 pub use numbers::{address_of, is_digit, number_of};
 pub use parts::split_part;

@@ -16,6 +16,16 @@ fn numbers_and_addresses(rt: HostRuntime) {
 }
 
 #[test]
+fn items(rt: HostRuntime) {
+    assert_eq!(rt; item_of(b"31:255"), Some((31, 255)));
+    assert_eq!(rt; item_of(b"0:0"), Some((0, 0)));
+    assert_eq!(rt; item_of(b"32:1"), None);
+    assert_eq!(rt; item_of(b"1:256"), None);
+    assert_eq!(rt; item_of(b"1"), None);
+    assert_eq!(rt; item_of(b"1:2:3"), None);
+}
+
+#[test]
 fn names(rt: HostRuntime) {
     assert!(rt; is_device_name(b"eth0.1_a-b:c"));
     assert!(rt; is_device_name(b"a23456789012345"));
