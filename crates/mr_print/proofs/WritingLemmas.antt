@@ -1,8 +1,6 @@
 -- Words one behind another.
 use Rattle.std.proofs.Common.{◌≡◌, ℕ, List, [], ◌∷◌, ◌++◌, sym, ap, ◌∙◌}
-use Rattle.std.proofs.lemmas.List.{append_assoc, append-nil}
-use Rattle.std.specs.Prelude.{flat_map}
-use Rattle.std.specs.List.{join_with_byte}
+use Rattle.std.proofs.lemmas.List.{append_assoc}
 use Rattle.mr_lines.specs.Forms.{Word, line_bytes}
 use Rattle.mr_print.specs.Written.{led}
 use Rattle.mr_records.proofs.RowLemmas.{joined}

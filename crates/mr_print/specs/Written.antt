@@ -1,5 +1,5 @@
 -- Words that are put behind others.
-use Rattle.std.specs.Prelude.{ℕ, List, [], ◌∷◌, ◌++◌, flat_map}
+use Rattle.std.specs.Prelude.{ℕ, List, ◌∷◌, flat_map}
 use Rattle.mr_lines.specs.Forms.{Word}
 
 -- words, each behind a space

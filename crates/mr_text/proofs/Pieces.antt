@@ -1,8 +1,7 @@
 -- The text of parts that fit is walked to its end, and begins with no line outside the grammar.
-use Rattle.std.proofs.Common.{◌≡◌, ℕ, zero, suc, ◌+◌, ◌==◌, ◌&&◌, ◌≤◌, ◌<◌, Bool, true, false, not, Option, Some, None, Result, Ok, Err, List, [], ◌∷◌, ◌++◌, length, map, refl, sym, ap, ◌∙◌, arith, lit≤, append-nil, append_assoc, length-append, ◌⊎◌, inl, inr}
+use Rattle.std.proofs.Common.{◌≡◌, ℕ, zero, suc, ◌+◌, ◌==◌, ◌&&◌, ◌≤◌, ◌<◌, Bool, true, false, Option, Some, None, Result, Ok, Err, List, [], ◌∷◌, ◌++◌, length, map, refl, sym, ap, ◌∙◌, arith, lit≤, append-nil, append_assoc, length-append, ◌⊎◌, inl, inr}
 use Rattle.std.specs.Prelude.{if◌then◌else◌, flat_map, option_and_then, take}
 use Rattle.std.specs.List.{AllByRecursion, join_with_byte}
-use Rattle.std.proofs.lemmas.Bool.{and_parts}
 use Rattle.mr_lines.proofs.PartLaws.{line_first}
 use Rattle.mr_lines.specs.Fit.{LineFits}
 use Rattle.mr_lines.specs.Forms.{spaced}
@@ -182,10 +181,9 @@ lines_again ps = flat_map (λ piece. piece ++ 10 ∷ []) ps
 cut_again : (ps : List (List ℕ)) (rest : List ℕ) → AllByRecursion IsOne ps → parts_of 10 (lines_again ps ++ rest) ≡ ps ++ parts_of 10 rest
 cut_again [] rest a = refl
 cut_again (p ∷ ps) rest a =
-    let both : (before 10 (p ++ 10 ∷ (lines_again ps ++ rest)) ≡ p) × (parts_behind 10 (p ++ 10 ∷ (lines_again ps ++ rest)) ≡ parts_of 10 (lines_again ps ++ rest)) = cut p (lines_again ps ++ rest) a.0 in
     let same : ((p ++ 10 ∷ []) ++ lines_again ps) ++ rest ≡ p ++ 10 ∷ (lines_again ps ++ rest) =
     append_assoc (p ++ 10 ∷ []) (lines_again ps) rest ∙ append_assoc p (10 ∷ []) (lines_again ps ++ rest) in
-    ap (parts_of 10) same ∙ ap (λ q. q ∷ parts_behind 10 (p ++ 10 ∷ (lines_again ps ++ rest))) both.0 ∙ ap (λ qs. p ∷ qs) (both.1 ∙ cut_again ps rest a.1)
+    ap (parts_of 10) same ∙ line_first p (lines_again ps ++ rest) a.0 ∙ ap (λ qs. p ∷ qs) (cut_again ps rest a.1)
 
 pub parts_err : (r : Result State ℕ) (n : ℕ) → parts_result r ≡ Err n → r ≡ Err n
 parts_err (Ok t) n e = absurd (cc e)

@@ -1,6 +1,6 @@
 -- Records in front of a text, behind a settle's line.
-use Rattle.std.proofs.Common.{◌≡◌, ℕ, ◌+◌, ◌-◌, ◌<◌, ◌≤◌, Option, Some, None, List, [], ◌∷◌, ◌++◌, length, refl, sym, ap, ◌∙◌, arith, lt-ltb}
-use Rattle.std.specs.Prelude.{option_and_then, nat_lt}
+use Rattle.std.proofs.Common.{◌≡◌, ℕ, ◌-◌, ◌<◌, ◌≤◌, Option, Some, None, List, [], ◌∷◌, ◌++◌, length, sym, ap, ◌∙◌, arith, lt-ltb}
+use Rattle.std.specs.Prelude.{option_and_then}
 use Rattle.std.proofs.lemmas.Option.{some_pair_parts}
 use Rattle.mr_base.specs.declared.numbers.LaneNo.{LaneNo}
 use Rattle.mr_lines.specs.Reading.{as_record, line_of}
