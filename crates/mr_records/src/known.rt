@@ -11,11 +11,11 @@ use mr_base::Mask;
 /// A way, and the bytes that say it in a record's line.
 #[derive(Clone, Copy)]
 pub struct Known {
-    pub way: Way,
     /// These bytes, and others behind them.
     pub row: [u8; 32],
-    /// How many they are.
-    pub count: usize,
+    pub way: Way,
+    /// How many bytes they are.
+    pub count: u8,
     pub ghost spelled: { take count row ≡ way_bytes way },
     pub ghost short: { count ≤ 32 },
 }
@@ -33,12 +33,12 @@ impl Known {
     /// A way to begin with.
     pub fn first() -> Known {
         Known {
+            row: *b" 0 - -\n                         ",
             way: Way {
                 entry: 0,
                 input: None,
                 outs: Mask(0),
             },
-            row: *b" 0 - -\n                         ",
             count: 7,
         }
     }
@@ -55,7 +55,11 @@ impl Known {
         }
         let mut row = [0u8; 32];
         row[..count].copy_from_slice(&text[at..]);
-        Some(Known { way, row, count })
+        Some(Known {
+            row,
+            way,
+            count: count as u8,
+        })
     }
 
     /// What stands behind the way's bytes, if a text of 32 bytes or more begins with them.
@@ -64,8 +68,8 @@ impl Known {
         ensures { IfSome result (λ rest. text.now ≡ way_bytes self.now.way ++ rest.now) }
     {
         let front = text.first_chunk::<32>()?;
-        if self.count <= same_bytes(front, &self.row) {
-            Some(from(text, self.count))
+        if self.count as usize <= same_bytes(front, &self.row) {
+            Some(from(text, self.count as usize))
         } else {
             None
         }

@@ -1,11 +1,11 @@
 //! Records taken off the front of a text.
 
-ghost use Rattle.std.specs.Prelude.{◌≡◌, ◌++◌, ◌∷◌, IfSome, decimal};
+ghost use Rattle.std.specs.Prelude.{◌≡◌, ◌++◌, ◌∷◌, IfOk, IfSome, decimal};
 ghost use Rattle.mr_lines.specs.Fit.{RecordFits};
 ghost use Rattle.mr_lines.specs.Forms.{line_bytes};
 ghost use Rattle.mr_lines.specs.Lines.{record_words};
 ghost use Rattle.mr_lines.specs.Reading.{record_of};
-ghost use Rattle.mr_records.specs.Taking.{Takes, first_record};
+ghost use Rattle.mr_records.specs.Taking.{Takes, TakesOnto, first_record};
 ghost use Rattle.mr_records.specs.Ways.{head_bytes};
 ghost use Rattle.mr_words.specs.Parts.{parts_of};
 
@@ -16,6 +16,7 @@ use mr_base::Addr;
 use mr_lines::{leading_number, read_record};
 use mr_model::{FastRecord, Flow};
 use mr_words::split_part;
+use std::alloc::AllocError;
 
 /// A number of 32 bits, and the bytes behind it.
 #[inline(always)]
@@ -78,7 +79,6 @@ fn known_record<'a>(ways: &Ways, text: &'a [u8]) -> Option<(FastRecord, &'a [u8]
 }
 
 /// The record in front of a text, if there is one, and the bytes behind its line. Its way is kept.
-#[inline(never)]
 fn any_record<'a>(ways: &mut Ways, text: &'a [u8]) -> Option<(FastRecord, &'a [u8])>
     ensures { Takes (λ r. r.now) result (first_record (parts_of 10 text.now)) }
 {
@@ -89,13 +89,37 @@ fn any_record<'a>(ways: &mut Ways, text: &'a [u8]) -> Option<(FastRecord, &'a [u
     Some((record, rest))
 }
 
-/// The record in front of a text, if its first line is one and has its line feed, and the bytes behind it.
+/// The same as `take_record`, whether or not the way is known.
+#[inline(never)]
+fn take_any<'a>(
+    ways: &mut Ways,
+    records: &mut Vec<FastRecord>,
+    text: &'a [u8],
+) -> Result<Option<&'a [u8]>, AllocError>
+    ensures { IfOk result (λ rest. TakesOnto (λ r. r.now) records.old.items records.new.items rest (first_record (parts_of 10 text.now))) }
+{
+    let Some((record, rest)) = any_record(ways, text) else {
+        return Ok(None);
+    };
+    records.push(record)?;
+    Ok(Some(rest))
+}
+
+/// Puts the record in front of a text behind others, and answers the bytes behind its line. Where the first line is no record, or
+/// has no line feed, the answer is `None` and nothing is put. Without memory the answer is `AllocError`.
 #[inline(always)]
-pub fn take_record<'a>(ways: &mut Ways, text: &'a [u8]) -> Option<(FastRecord, &'a [u8])>
-    ensures { Takes (λ r. r.now) result (first_record (parts_of 10 text.now)) }
+pub fn take_record<'a>(
+    ways: &mut Ways,
+    records: &mut Vec<FastRecord>,
+    text: &'a [u8],
+) -> Result<Option<&'a [u8]>, AllocError>
+    ensures { IfOk result (λ rest. TakesOnto (λ r. r.now) records.old.items records.new.items rest (first_record (parts_of 10 text.now))) }
 {
     match known_record(ways, text) {
-        Some((record, rest)) => Some((record, rest)),
-        None => any_record(ways, text),
+        Some((record, rest)) => {
+            records.push(record)?;
+            Ok(Some(rest))
+        }
+        None => take_any(ways, records, text),
     }
 }

@@ -1,6 +1,7 @@
 use super::*;
 use mr_base::{Addr, Mask};
 use mr_model::{FastRecord, Flow};
+use std::alloc::{AllocError, Global};
 use std::test::Fail;
 
 /// A record of entry 50.
@@ -47,32 +48,37 @@ fn written(rt: HostRuntime) -> Result<(), Fail> {
     Ok(())
 }
 
-/// Whether the lines are these records and nothing more.
-fn takes_all(lines: &str) -> bool {
+/// The records in front of a text, and how many bytes are behind them.
+fn take_all(alloc: Global, text: &[u8]) -> Result<(Vec<FastRecord>, usize), AllocError> {
     let mut ways = Ways::new();
-    let mut rest = lines.as_bytes();
-    for record in &records() {
-        match take_record(&mut ways, rest) {
-            Some((taken, left)) if taken == *record => rest = left,
-            _ => return false,
+    let mut records = Vec::new(alloc);
+    let mut rest = text;
+    for _ in 0..text.len() {
+        match take_record(&mut ways, &mut records, rest)? {
+            Some(left) => rest = left,
+            None => return Ok((records, rest.len())),
         }
     }
-    rest.len() == 0
+    Ok((records, rest.len()))
 }
 
 #[test]
 fn taken(rt: HostRuntime) -> Result<(), Fail> {
-    assert!(rt; takes_all(LINES));
+    let (taken, left) = take_all(rt.alloc(), LINES.as_bytes())?;
+    assert_eq!(rt; taken.as_slice(), records().as_slice());
+    assert_eq!(rt; left, 0);
     Ok(())
 }
 
 /// Whether no record is in front of a text, whether or not its way is known.
-fn refuses(text: &[u8]) -> bool {
+fn refuses(alloc: Global, text: &[u8]) -> Result<bool, AllocError> {
     let mut ways = Ways::new();
-    let first = take_record(&mut ways, text).is_none();
+    let mut records = Vec::new(alloc);
+    let first = take_record(&mut ways, &mut records, text)?;
     let line = b"- 1 2 50 0 1,2\n- 1 2 50 0 1,2\n- 1 2 50 0 1,2\n";
-    let known = take_record(&mut ways, line).is_some();
-    first && known && take_record(&mut ways, text).is_none()
+    let known = take_record(&mut ways, &mut records, line)?;
+    let second = take_record(&mut ways, &mut records, text)?;
+    Ok(first.is_none() && known.is_some() && second.is_none() && records.len() == 1)
 }
 
 #[test]
@@ -97,7 +103,7 @@ fn near_misses(rt: HostRuntime) -> Result<(), Fail> {
         "",
     ];
     for text in texts {
-        assert!(rt; refuses(text.as_bytes()));
+        assert!(rt; refuses(rt.alloc(), text.as_bytes())?);
     }
     Ok(())
 }

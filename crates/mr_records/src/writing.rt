@@ -77,7 +77,7 @@ fn write_known(out: &mut Vec<u8>, packet: &FastRecord, known: &Known) -> Result<
     let mut row = [0u8; 80];
     put_known(&mut row, known);
     let at = put_head(&mut row, 24, packet);
-    write_part(out, &row, at, 24 + known.count)
+    write_part(out, &row, at, 24 + known.count as usize)
 }
 
 /// Puts the line of any record, and keeps its way.

@@ -1,5 +1,5 @@
 -- Records in front of a text, behind a settle's line.
-use Rattle.std.proofs.Common.{◌≡◌, ℕ, ◌-◌, ◌<◌, ◌≤◌, Option, Some, None, List, [], ◌∷◌, ◌++◌, length, sym, ap, ◌∙◌, arith, lt-ltb}
+use Rattle.std.proofs.Common.{◌≡◌, ℕ, ◌-◌, ◌<◌, ◌≤◌, Option, Some, None, List, [], ◌∷◌, ◌++◌, length, sym, ap, subst, ◌∙◌, arith, lt-ltb}
 use Rattle.std.specs.Prelude.{option_and_then}
 use Rattle.std.proofs.lemmas.Option.{some_pair_parts}
 use Rattle.mr_base.specs.declared.numbers.LaneNo.{LaneNo}
@@ -7,7 +7,7 @@ use Rattle.mr_lines.specs.Reading.{as_record, line_of}
 use Rattle.mr_lines.specs.declared.line.Line.{Line}
 use Rattle.mr_lines.specs.declared.line.Line.TheVariants as line
 use Rattle.mr_model.specs.declared.entry.FastRecord.{FastRecord}
-use Rattle.mr_records.specs.Taking.{record_of_line, first_record}
+use Rattle.mr_records.specs.Taking.{TakesOnto, record_of_line, first_record}
 use Rattle.mr_text.specs.declared.reading_state.State.{State}
 use Rattle.mr_text.specs.Answers.{GoesOn, settling}
 use Rattle.mr_text.specs.Walk.{when, step, line_step, next_line, line_gives, walk}
@@ -47,3 +47,20 @@ pub records_on : (n m next : ℕ) (bytes rest after : List ℕ) (old records mor
 records_on n m next bytes rest after old records more all left r due on is so e s lane =
     let one = record_walks m s lane records left r (parts_of 10 rest) (parts_of 10 after) due e in
     ((λ i. walk (on i) (settling s lane (is i) (left - 1)) (parts_of 10 after)) ∙ one.0 ∙ (so s lane).0, omega (arith, one.1, (so s lane).1))
+
+-- what an answer says of the list and the text
+pub taken_none : {R : Type 0} (bytes : R → List ℕ) (old new : List FastRecord) (o : Option R) (read : Option (FastRecord × List (List ℕ))) → TakesOnto bytes old new o read → o ≡ None → new ≡ old
+taken_none bytes old new None read so is = so.1
+taken_none bytes old new (Some rest) read so is = absurd (cc is)
+
+pub taken_some : {R : Type 0} (bytes : R → List ℕ) (old new : List FastRecord) (o : Option R) (rest : R) (read : Option (FastRecord × List (List ℕ))) → TakesOnto bytes old new o read → o ≡ Some rest
+    → (r : FastRecord) × (read ≡ Some (r, parts_of 10 (bytes rest))) × (new ≡ old ++ r ∷ [])
+taken_some bytes old new None rest read so is = absurd (cc is)
+taken_some bytes old new (Some other) rest read so is =
+    let same : other ≡ rest = cc is in
+    subst (λ x. (r : FastRecord) × (read ≡ Some (r, parts_of 10 (bytes x))) × (new ≡ old ++ r ∷ [])) same so
+
+-- where no record is put the invariant stands
+pub records_kept : (n m : ℕ) (bytes rest : List ℕ) (old records more : List FastRecord) (all left : ℕ) → more ≡ records
+    → ((s : State) (lane : LaneNo) → GoesOn n (settling s lane old all) bytes m (settling s lane records left) rest) → (s : State) (lane : LaneNo) → GoesOn n (settling s lane old all) bytes m (settling s lane more left) rest
+records_kept n m bytes rest old records more all left same so s lane = subst (λ x. GoesOn n (settling s lane old all) bytes m (settling s lane x left) rest) (sym same) (so s lane)

@@ -47,17 +47,24 @@ fn take_records<'a>(
     ensures { IfOk result (λ rest. (s : State) (lane : LaneNo) → GoesOn line.old (settling s lane records.old.items left.old) text.now line.new (settling s lane records.new.items left.new) rest.now) }
 {
     let mut rest = text;
-    'records: while *left > 0 {
-        match take_record(ways, rest) {
-            None => return Ok(rest),
-            Some((record, after)) => {
-                records.push(record)?;
-                *left -= 1;
-                *line = line.saturating_add(1);
+    let mut due = *left;
+    let mut next = *line;
+    'records: while due > 0 {
+        match take_record(ways, records, rest)? {
+            None => {
+                *left = due;
+                *line = next;
+                return Ok(rest);
+            }
+            Some(after) => {
                 rest = after;
+                due -= 1;
+                next = next.saturating_add(1);
             }
         }
     }
+    *left = due;
+    *line = next;
     Ok(rest)
 }
 

@@ -6,7 +6,7 @@ use Rattle.mr_text.proofs.reading.take_records.Given as goal
 -- what is left comes to what the whole text comes to
 abbrev pub invariant-records : goal.invariant-records
 invariant-records l =
-    (s : State) (lane : LaneNo) → GoesOn l.fn.line (settling s lane l.fn.records.items l.fn.left) l.fn.text l.line (settling s lane l.records.items l.left) l.rest
+    (s : State) (lane : LaneNo) → GoesOn l.fn.line (settling s lane l.fn.records.items l.fn.left) l.fn.text l.next (settling s lane l.records.items l.due) l.rest
 
 abbrev pub decreases-records : goal.decreases-records
-decreases-records l = l.left
+decreases-records l = l.due
