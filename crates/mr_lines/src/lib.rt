@@ -20,7 +20,6 @@ mod words;
 
 pub use laws::{line_again, line_clean, line_is_one, line_splits, line_takes, spaced_again};
 pub use line::Line;
-pub use numbers::leading_number;
 pub use reading::{read_line, read_record};
 pub use skip::Skip;
 pub use tail::{RouteLine, Tail, VifLine};

@@ -1,9 +1,9 @@
 -- What stands in front of a text.
-use Rattle.std.proofs.Common.{◌≡◌, ℕ, Bool, true, false, Some, List, [], ◌∷◌, ◌++◌, decimal, refl, sym, ap, ◌∙◌, append_assoc, lit<}
+use Rattle.std.proofs.Common.{◌+◌, ◌-◌, ◌*◌, ◌/◌, ◌%◌, ◌≤◌, ◌<◌, arith, leb-true, ◌≡◌, ℕ, true, Some, List, [], ◌∷◌, ◌++◌, decimal, sym, ap, ◌∙◌, append_assoc}
 use Rattle.std.specs.Prelude.{option_and_then}
-use Rattle.mr_lines.specs.Bytes.{digits_of, past_digits}
 use Rattle.mr_lines.proofs.LineLaws.{line_again, line_splits, line_is_one}
-use Rattle.mr_lines.proofs.NumberLaws.{number_takes}
+use Rattle.std.proofs.lemmas.Bool.{and_parts}
+use Rattle.std.proofs.lemmas.Fmt.{decimal_digit, decimal_step}
 use Rattle.mr_lines.proofs.PartLaws.{line_first}
 use Rattle.mr_lines.specs.Fit.{RecordFits}
 use Rattle.mr_lines.specs.Forms.{spaced, line_bytes}
@@ -13,21 +13,32 @@ use Rattle.mr_lines.specs.declared.line.Line.TheVariants as line
 use Rattle.mr_model.specs.declared.entry.FastRecord.{FastRecord}
 use Rattle.mr_records.specs.Taking.{record_of_line, first_record}
 use Rattle.mr_words.specs.Parts.{parts_of}
-use Rattle.mr_words.specs.Numbers.{is_digit, number_of}
+use Rattle.mr_words.specs.Numbers.{is_digit}
 
-digits_cut : (bs : List ℕ) → digits_of bs ++ past_digits bs ≡ bs
-digits_cut [] = refl
-digits_cut (b ∷ bs) = by_case (is_digit b) refl (digits_cut bs)
-  where
-    by_case : (t : Bool) → is_digit b ≡ t → digits_of bs ++ past_digits bs ≡ bs → digits_of (b ∷ bs) ++ past_digits (b ∷ bs) ≡ b ∷ bs
-    by_case true e inner = rw e (ap (λ l. b ∷ l) inner)
-    by_case false e inner = rw e refl
+-- a digit lies between 48 and 57
+digit_range : (b : ℕ) → is_digit b ≡ true → (48 ≤ b) × (b ≤ 57)
+digit_range b digit =
+    let both = and_parts _ _ digit in
+    (leb-true 48 b both.0, leb-true b 57 both.1)
 
--- a number in front, and what is behind its digits
-pub number_front : (n : ℕ) (bs left : List ℕ) → number_of 4294967295 (digits_of bs) ≡ Some n → left ≡ past_digits bs → bs ≡ decimal n ++ left
-number_front n bs left reads is =
-    let word = number_takes 4294967295 (lit< tt) (digits_of bs) n reads in
-    sym (digits_cut bs) ∙ (λ i. word.0 i ++ sym is i)
+-- a first digit is a number
+pub digit_first : (b d : ℕ) (text rest : List ℕ) → is_digit b ≡ true → d ≡ b - 48 → text ≡ b ∷ rest → text ≡ decimal d ++ rest
+digit_first b d text rest digit value is =
+    let range = digit_range b digit in
+    let same : 48 + d ≡ b = omega (arith, range.0, value) in
+    let one : decimal d ≡ b ∷ [] = decimal_digit d (omega (arith, range.1, value)) ∙ ap (λ x. x ∷ []) same in
+    is ∙ ap (λ ds. ds ++ rest) (sym one)
+
+-- one more digit
+pub digit_more : (value b d : ℕ) (whole left after : List ℕ) → 0 < value → value < 100000000 → is_digit b ≡ true → d ≡ b - 48 → left ≡ b ∷ after → whole ≡ decimal value ++ left
+    → (whole ≡ decimal (value * 10 + d) ++ after) × (value * 10 + d ≤ 999999999)
+digit_more value b d whole left after some short digit is_d cut is =
+    let range = digit_range b digit in
+    let n = value * 10 + d in
+    let front : n / 10 ≡ value = omega (arith, range.0, range.1, is_d) in
+    let last : 48 + n % 10 ≡ b = omega (arith, range.0, range.1, is_d) in
+    let steps : decimal n ≡ decimal value ++ b ∷ [] = decimal_step n (omega arith) (omega (arith, range.1, is_d)) ∙ (λ i. decimal (front i) ++ last i ∷ []) in
+    (is ∙ ap (λ l. decimal value ++ l) cut ∙ sym (ap (λ ds. ds ++ after) steps ∙ append_assoc (decimal value) (b ∷ []) after), omega (arith, range.1, is_d))
 
 -- the line of a record that fits says it
 record_line : (r : FastRecord) → RecordFits r → record_of_line (spaced (record_words r)) ≡ Some r
