@@ -3,6 +3,7 @@
 #![tactic(auto)]
 
 mod known;
+mod numbers;
 mod rows;
 mod same;
 mod taking;
@@ -12,6 +13,7 @@ mod way;
 mod ways;
 mod writing;
 
+pub use numbers::leading_number;
 pub use rows::put_mask;
 pub use taking::take_record;
 pub use ways::Ways;

@@ -1,6 +1,6 @@
 //! Records taken off the front of a text.
 
-ghost use Rattle.std.specs.Prelude.{◌≡◌, ◌<◌, ◌≤◌, ◌++◌, ◌∷◌, IfOk, IfSome, decimal, length, slice_index};
+ghost use Rattle.std.specs.Prelude.{◌≡◌, ◌++◌, IfOk, IfSome};
 ghost use Rattle.mr_lines.specs.Fit.{RecordFits};
 ghost use Rattle.mr_lines.specs.Forms.{line_bytes};
 ghost use Rattle.mr_lines.specs.Lines.{record_words};
@@ -9,57 +9,15 @@ ghost use Rattle.mr_records.specs.Taking.{Takes, TakesOnto, first_record};
 ghost use Rattle.mr_records.specs.Ways.{head_bytes};
 ghost use Rattle.mr_words.specs.Parts.{parts_of};
 
+use crate::numbers::leading_number;
 use crate::way::Way;
 use crate::ways::Ways;
 use crate::writing::way_of;
 use mr_base::Addr;
 use mr_lines::read_record;
 use mr_model::{FastRecord, Flow};
-use mr_words::{is_digit, split_part};
+use mr_words::split_part;
 use std::alloc::AllocError;
-
-/// The bytes behind the first.
-#[inline(always)]
-fn past(bytes: &[u8]) -> &[u8]
-    requires { 0 < length bytes.now }
-    ensures { bytes.now ≡ slice_index bytes.now 0 ∷ result.now }
-{
-    &bytes[1..]
-}
-
-/// A number that isn't 0 with the digits behind it, up to nine in all, and the bytes behind them.
-#[inline(always)]
-fn digits(first: u32, text: &[u8]) -> Option<(u32, &[u8])>
-    requires { (0 < first) × (first ≤ 9) }
-    ensures { IfSome result (λ x. decimal first ++ text.now ≡ decimal x.0 ++ x.1.now) }
-{
-    let mut value = first;
-    let mut left = text;
-    'digits: while value < 100_000_000 {
-        if left.len() == 0 || !is_digit(left[0]) {
-            return Some((value, left));
-        }
-        value = value * 10 + u32::from(left[0] - b'0');
-        left = past(left);
-    }
-    Some((value, left))
-}
-
-/// The number with which a text begins, of at most nine digits, and the bytes behind it.
-#[inline(always)]
-fn number(text: &[u8]) -> Option<(u32, &[u8])>
-    ensures { IfSome result (λ x. text.now ≡ decimal x.0 ++ x.1.now) }
-{
-    if text.len() == 0 || !is_digit(text[0]) {
-        return None;
-    }
-    let first = u32::from(text[0] - b'0');
-    if first == 0 {
-        return Some((0, past(text)));
-    }
-    let (number, rest) = digits(first, past(text))?;
-    Some((number, rest))
-}
 
 /// `- INDEX LOOK`, and the bytes behind it.
 #[inline(always)]
@@ -69,11 +27,11 @@ fn head(text: &[u8]) -> Option<(u32, u32, &[u8])>
     let [b'-', b' ', rest @ ..] = text else {
         return None;
     };
-    let (index, rest) = number(rest)?;
+    let (index, rest) = leading_number(rest)?;
     let [b' ', rest @ ..] = rest else {
         return None;
     };
-    let (look, rest) = number(rest)?;
+    let (look, rest) = leading_number(rest)?;
     Some((index, look, rest))
 }
 

@@ -8,3 +8,4 @@ pub mod Finding
 pub mod TextLaws
 pub mod Beginning
 pub mod Records
+pub mod SettleLaws

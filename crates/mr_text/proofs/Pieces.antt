@@ -31,7 +31,7 @@ abbrev pub piece : Line → List ℕ
 piece l = spaced (line_words l)
 
 -- A line in front of bytes is one piece in front of theirs.
-cut_line : LineIsOne → (l : Line) (rest : List ℕ) → LineFits l → parts_of 10 (line_text l ++ rest) ≡ piece l ∷ parts_of 10 rest
+pub cut_line : LineIsOne → (l : Line) (rest : List ℕ) → LineFits l → parts_of 10 (line_text l ++ rest) ≡ piece l ∷ parts_of 10 rest
 cut_line one l rest fits = ap (parts_of 10) (append_assoc (piece l) (10 ∷ []) rest) ∙ line_first (piece l) rest (one l fits)
 
 cut_lines : LineIsOne → (ls : List Line) → AllByRecursion LineFits ls → parts_of 10 (flat_map line_text ls) ≡ map piece ls ++ [] ∷ []
@@ -39,7 +39,7 @@ cut_lines one [] fits = refl
 cut_lines one (l ∷ ls) fits = cut_line one l (flat_map line_text ls) fits.0 ∙ ap (λ ps. piece l ∷ ps) (cut_lines one ls fits.1)
 
 -- one piece in front of others
-walk_on : (n : ℕ) (s : State) (p : List ℕ) (ps : List (List ℕ)) → 0 < length ps → walk n s (p ∷ ps) ≡ (line_gives n (line_step n s p) >>= λ t. walk (next_line n) t ps)
+pub walk_on : (n : ℕ) (s : State) (p : List ℕ) (ps : List (List ℕ)) → 0 < length ps → walk n s (p ∷ ps) ≡ (line_gives n (line_step n s p) >>= λ t. walk (next_line n) t ps)
 walk_on n s p [] some = absurd (omega arith)
 walk_on n s p (q ∷ qs) some = refl
 
@@ -47,7 +47,7 @@ some_behind : {A : Type 0} (xs : List A) (x : A) → 0 < length (xs ++ x ∷ [])
 some_behind xs x = omega (arith, length-append xs (x ∷ []))
 
 -- a line that fits is read from its bytes
-line_read : LineAgain → LineSplits → (n : ℕ) (s : State) (l : Line) → LineFits l → line_step n s (piece l) ≡ step n s l
+pub line_read : LineAgain → LineSplits → (n : ℕ) (s : State) (l : Line) → LineFits l → line_step n s (piece l) ≡ step n s l
 line_read again splits n s l fits = ap (λ ws. option_and_then (step n s) (line_of ws)) (splits l fits) ∙ ap (option_and_then (step n s)) (again l fits)
 
 walk_lines : LineAgain → LineSplits → (ls : List Line) (s t : State) → Sound s → AllByRecursion LineFits ls → runs s ls ≡ Some t → t.ended ≡ true → walk (next_of s) s (map piece ls ++ [] ∷ []) ≡ Ok t

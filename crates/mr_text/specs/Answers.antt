@@ -30,3 +30,9 @@ settling s lane records left = record s { current = current.Settle lane records 
 abbrev pub GoesOn : ℕ → State → List ℕ → ℕ → State → List ℕ → Type 0
 GoesOn n s bytes m t rest =
     (walk m t (parts_of 10 rest) ≡ walk n s (parts_of 10 bytes)) × (length (parts_of 10 rest) ≤ length (parts_of 10 bytes))
+
+-- Lines were taken off a text, so that it goes on, or this is the number of the first that may not come; memory may run out.
+abbrev pub Goes : {R : Type 0} → (R → List ℕ) → Result R TextError → ℕ → State → List ℕ → ℕ → State → Type 0
+Goes left (Ok rest) n s bytes m t = GoesOn n s bytes m t (left rest)
+Goes left (Err (error.Line k)) n s bytes m t = walk n s (parts_of 10 bytes) ≡ Err k
+Goes left (Err error.Memory) n s bytes m t = Unit {0}

@@ -6,6 +6,7 @@ mod laws;
 mod orders;
 mod reading;
 mod reading_state;
+mod settles;
 mod steps;
 #[cfg(test)]
 mod tests;

@@ -10,6 +10,7 @@ ghost use Rattle.mr_text.specs.Whole.{PartsFit, first_lines};
 
 use crate::history_text::{HistoryText, TextError};
 use crate::reading_state::{Current, State};
+use crate::settles::take_settle;
 use crate::steps::step;
 use mr_base::List;
 use mr_lines::{Tail, read_line};
@@ -132,6 +133,7 @@ pub fn read_history(alloc: Global, bytes: &[u8]) -> Result<HistoryText, TextErro
     let mut rest = bytes;
     let mut ways = Ways::new();
     'lines: loop {
+        rest = take_settle(alloc, &mut line, &mut state, rest)?;
         rest = take_due(&mut ways, &mut line, &mut state, rest)?;
         match split_part(rest, b'\n') {
             (piece, None) => return whole(line, state, piece),

@@ -263,7 +263,7 @@ fn slow(
 }
 
 /// The first line of a settle.
-fn settle(
+pub fn settle(
     alloc: Global,
     line: u32,
     state: &mut State,

@@ -1,5 +1,5 @@
 use Rattle.std.proofs.Common.{◌≡◌, ◌<◌, ◌≤◌, ◌++◌, decimal, length}
-use Rattle.mr_records.proofs.taking.digits.Given as goal
+use Rattle.mr_records.proofs.numbers.digits.Given as goal
 
 -- what was read and what is left are the whole
 abbrev pub invariant-digits : goal.invariant-digits

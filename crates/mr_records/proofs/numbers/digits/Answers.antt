@@ -1,6 +1,6 @@
 use Rattle.std.proofs.Common.{sym, ◌∙◌, arith}
 use Rattle.mr_records.proofs.TakingLemmas.{digit_more}
-use Rattle.mr_records.proofs.taking.digits.Goals as goal
+use Rattle.mr_records.proofs.numbers.digits.Goals as goal
 
 pub digits-preserved : goal.digits-preserved
 digits-preserved c =

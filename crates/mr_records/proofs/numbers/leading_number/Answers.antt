@@ -1,6 +1,6 @@
 use Rattle.std.proofs.Common.{sym, ap, ◌++◌, decimal, ◌∙◌}
 use Rattle.mr_records.proofs.TakingLemmas.{digit_first}
-use Rattle.mr_records.proofs.taking.number.Goals as goal
+use Rattle.mr_records.proofs.numbers.leading_number.Goals as goal
 
 pub returns-then-first-eq0 : goal.returns-then-first-eq0
 returns-then-first-eq0 c =
@@ -10,4 +10,4 @@ returns-then-first-eq0 c =
 pub returns : goal.returns
 returns c =
     let digit = sym c.is_digit.ensures ∙ c.if-not-is_digit.false in
-    digit_first _ c.from-first.result c.args.text.now c.past-2.result.now digit c.from-first.ensures c.past-2.ensures ∙ c.in_ok-number.ensures
+    digit_first _ c.from-first.result c.args.text.now c.past-2.result.now digit c.from-first.ensures c.past-2.ensures ∙ c.digits.ensures

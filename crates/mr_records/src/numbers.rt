@@ -1,0 +1,48 @@
+//! Numbers in front of a text.
+
+ghost use Rattle.std.specs.Prelude.{◌≡◌, ◌<◌, ◌≤◌, ◌++◌, ◌∷◌, [], MatchOption, decimal, length, slice_index};
+ghost use Rattle.mr_lines.specs.Bytes.{digits_of};
+
+use mr_words::is_digit;
+
+/// The bytes behind the first.
+#[inline(always)]
+fn past(bytes: &[u8]) -> &[u8]
+    requires { 0 < length bytes.now }
+    ensures { bytes.now ≡ slice_index bytes.now 0 ∷ result.now }
+{
+    &bytes[1..]
+}
+
+/// A number that isn't 0 with the digits behind it, up to nine in all, and the bytes behind them.
+#[inline(always)]
+fn digits(first: u32, text: &[u8]) -> (u32, &[u8])
+    requires { (0 < first) × (first ≤ 9) }
+    ensures { decimal first ++ text.now ≡ decimal result.0 ++ result.1.now }
+{
+    let mut value = first;
+    let mut left = text;
+    'digits: while value < 100_000_000 {
+        if left.len() == 0 || !is_digit(left[0]) {
+            return (value, left);
+        }
+        value = value * 10 + u32::from(left[0] - b'0');
+        left = past(left);
+    }
+    (value, left)
+}
+
+/// The number with which a text begins, of its first nine digits at most, and the bytes behind it; `None` where no digit is first.
+#[inline(always)]
+pub fn leading_number(text: &[u8]) -> Option<(u32, &[u8])>
+    ensures { MatchOption result (digits_of text.now ≡ []) (λ x. text.now ≡ decimal x.0 ++ x.1.now) }
+{
+    if text.len() == 0 || !is_digit(text[0]) {
+        return None;
+    }
+    let first = u32::from(text[0] - b'0');
+    if first == 0 {
+        return Some((0, past(text)));
+    }
+    Some(digits(first, past(text)))
+}
