@@ -1,5 +1,5 @@
 -- What the code answers, beside what the definitions say.
-use Rattle.std.specs.Prelude.{◌≡◌, ◌≤◌, ℕ, Option, Some, None, Result, Ok, Err, List, length}
+use Rattle.std.specs.Prelude.{◌≡◌, ◌<◌, ◌≤◌, ℕ, Option, Some, None, Result, Ok, Err, List, length}
 use Rattle.mr_base.specs.declared.numbers.LaneNo.{LaneNo}
 use Rattle.mr_model.specs.declared.entry.FastRecord.{FastRecord}
 use Rattle.mr_text.specs.declared.history_text.HistoryText.{HistoryText}
@@ -31,8 +31,10 @@ abbrev pub GoesOn : ℕ → State → List ℕ → ℕ → State → List ℕ �
 GoesOn n s bytes m t rest =
     (walk m t (parts_of 10 rest) ≡ walk n s (parts_of 10 bytes)) × (length (parts_of 10 rest) ≤ length (parts_of 10 bytes))
 
--- Lines were taken off a text, so that it goes on, or this is the number of the first that may not come; memory may run out.
-abbrev pub Goes : {R : Type 0} → (R → List ℕ) → Result R TextError → ℕ → State → List ℕ → ℕ → State → Type 0
-Goes left (Ok rest) n s bytes m t = GoesOn n s bytes m t (left rest)
-Goes left (Err (error.Line k)) n s bytes m t = walk n s (parts_of 10 bytes) ≡ Err k
-Goes left (Err error.Memory) n s bytes m t = Unit {0}
+-- A line was taken off a text, which goes on behind it, or none was and nothing changed, or this is the number of the first that may
+-- not come; memory may run out.
+abbrev pub Turns : {R : Type 0} → (R → List ℕ) → Result (Option R) TextError → ℕ → State → List ℕ → ℕ → State → Type 0
+Turns left (Ok None) n s bytes m t = (m ≡ n) × (t ≡ s)
+Turns left (Ok (Some rest)) n s bytes m t = GoesOn n s bytes m t (left rest) × (length (parts_of 10 (left rest)) < length (parts_of 10 bytes))
+Turns left (Err (error.Line k)) n s bytes m t = walk n s (parts_of 10 bytes) ≡ Err k
+Turns left (Err error.Memory) n s bytes m t = Unit {0}

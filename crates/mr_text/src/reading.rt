@@ -133,15 +133,17 @@ pub fn read_history(alloc: Global, bytes: &[u8]) -> Result<HistoryText, TextErro
     let mut rest = bytes;
     let mut ways = Ways::new();
     'lines: loop {
-        rest = take_settle(alloc, &mut line, &mut state, rest)?;
         rest = take_due(&mut ways, &mut line, &mut state, rest)?;
-        match split_part(rest, b'\n') {
-            (piece, None) => return whole(line, state, piece),
-            (piece, Some(after)) => {
-                take_line(alloc, line, &mut state, piece)?;
-                line = line.saturating_add(1);
-                rest = after;
-            }
+        match take_settle(alloc, &mut line, &mut state, rest)? {
+            Some(after) => rest = after,
+            None => match split_part(rest, b'\n') {
+                (piece, None) => return whole(line, state, piece),
+                (piece, Some(after)) => {
+                    take_line(alloc, line, &mut state, piece)?;
+                    line = line.saturating_add(1);
+                    rest = after;
+                }
+            },
         }
     }
 }

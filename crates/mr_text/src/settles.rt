@@ -3,7 +3,7 @@
 ghost use Rattle.std.specs.Prelude.{◌≡◌, ◌++◌, ◌∷◌, IfSome, codes};
 ghost use Rattle.mr_lines.specs.Fit.{LineFits};
 ghost use Rattle.mr_lines.specs.declared.line.Line.TheVariants as said;
-ghost use Rattle.mr_text.specs.Answers.{Goes};
+ghost use Rattle.mr_text.specs.Answers.{Turns};
 ghost use Rattle.mr_text.specs.Text.{line_text};
 
 use crate::history_text::TextError;
@@ -51,23 +51,23 @@ fn settle_line(text: &[u8]) -> Option<(u32, LaneNo, u32, &[u8])>
     Some((number, LaneNo(lane), count, rest))
 }
 
-/// Reads the line of a settle, if one is in front of a text.
+/// Reads the line of a settle, if one is in front of a text, and answers the bytes behind it.
 pub fn take_settle<'a>(
     alloc: Global,
     line: &mut u32,
     state: &mut State,
     text: &'a [u8],
-) -> Result<&'a [u8], TextError>
-    ensures { Goes (λ r. r.now) result line.old state.old text.now line.new state.new }
+) -> Result<Option<&'a [u8]>, TextError>
+    ensures { Turns (λ r. r.now) result line.old state.old text.now line.new state.new }
 {
     let Some((number, lane, count, rest)) = settle_line(text) else {
-        return Ok(text);
+        return Ok(None);
     };
     match settle(alloc, *line, state, number as u64, lane, count as u64) {
         Err(error) => Err(error),
         Ok(()) => {
             *line = line.saturating_add(1);
-            Ok(rest)
+            Ok(Some(rest))
         }
     }
 }
