@@ -1,6 +1,6 @@
 //! Numbers in front of a text.
 
-ghost use Rattle.std.specs.Prelude.{◌≡◌, ◌<◌, ◌≤◌, ◌++◌, ◌∷◌, [], MatchOption, decimal, length, slice_index};
+ghost use Rattle.std.specs.Prelude.{◌≡◌, ◌<◌, ◌≤◌, ◌++◌, ◌∷◌, [], IfSome, MatchOption, decimal, length, slice_index};
 ghost use Rattle.mr_lines.specs.Bytes.{digits_of};
 
 use mr_words::is_digit;
@@ -18,7 +18,8 @@ fn past(bytes: &[u8]) -> &[u8]
 #[inline(always)]
 fn digits(first: u32, text: &[u8]) -> (u32, &[u8])
     requires { (0 < first) × (first ≤ 9) }
-    ensures { decimal first ++ text.now ≡ decimal result.0 ++ result.1.now }
+    ensures text { decimal first ++ text.now ≡ decimal result.0 ++ result.1.now }
+    ensures all { result.0 < 100000000 → digits_of result.1.now ≡ [] }
 {
     let mut value = first;
     let mut left = text;
@@ -32,10 +33,12 @@ fn digits(first: u32, text: &[u8]) -> (u32, &[u8])
     (value, left)
 }
 
-/// The number with which a text begins, of its first nine digits at most, and the bytes behind it; `None` where no digit is first.
+/// The number with which a text begins, and the bytes behind it; `None` where no digit is first. It has all digits that stand there,
+/// but no more than nine, and none behind a zero.
 #[inline(always)]
 pub fn leading_number(text: &[u8]) -> Option<(u32, &[u8])>
-    ensures { MatchOption result (digits_of text.now ≡ []) (λ x. text.now ≡ decimal x.0 ++ x.1.now) }
+    ensures text { MatchOption result (digits_of text.now ≡ []) (λ x. text.now ≡ decimal x.0 ++ x.1.now) }
+    ensures all { IfSome result (λ x. 0 < x.0 → x.0 < 100000000 → digits_of x.1.now ≡ []) }
 {
     if text.len() == 0 || !is_digit(text[0]) {
         return None;

@@ -107,3 +107,27 @@ fn near_misses(rt: HostRuntime) -> Result<(), Fail> {
     }
     Ok(())
 }
+
+/// What `leading_number` gives of a text: the number, and how many bytes are behind it.
+fn leads(text: &str) -> Option<(u32, usize)> {
+    let (number, rest) = leading_number(text.as_bytes())?;
+    Some((number, rest.len()))
+}
+
+#[test]
+fn numbers(rt: HostRuntime) -> Result<(), Fail> {
+    let cases = [
+        ("0", Some((0, 0))),
+        ("07", Some((0, 1))),
+        ("7 8", Some((7, 2))),
+        ("123456789", Some((123_456_789, 0))),
+        ("1234567890", Some((123_456_789, 1))),
+        ("", None),
+        (" 1", None),
+        ("x", None),
+    ];
+    for (text, want) in cases {
+        assert!(rt; leads(text) == want);
+    }
+    Ok(())
+}
