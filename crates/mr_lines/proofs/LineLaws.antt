@@ -11,7 +11,7 @@ use Rattle.mr_model.specs.declared.reply.Reply.{Reply}
 use Rattle.mr_model.specs.declared.request.Request.{Request}
 use Rattle.mr_lines.specs.Fields.{both, mapped, renamed, by_word, keyword}
 use Rattle.mr_lines.specs.Fit.{Fits32, Fits64, LaneFits, DaemonFits, RequestFits, ReplyFits, OutcomeFits, MessageFits}
-use Rattle.mr_lines.specs.Forms.{Word}
+use Rattle.mr_lines.specs.Forms.{Word, spaced}
 use Rattle.mr_lines.specs.Laws.{is_free, are_free}
 use Rattle.mr_lines.specs.Lines.{request_words, reply_words, outcome_words, message_words}
 use Rattle.mr_lines.specs.Reading.{u32, u64, vif_or_none, mask, lane, daemon, asked, replied, happened, vif, message_at}
@@ -24,6 +24,7 @@ use Rattle.mr_lines.proofs.RequestLaws.{asked_words, asked_field, keyword_takes}
 use Rattle.mr_lines.proofs.PartLaws.{clean_splits, free_one_line}
 use Rattle.mr_lines.proofs.FormLaws.{u64_field, lane_field, daemon_field, skip_field, route_field, vif_line_field, fate_line_field, FlowFits, forward_words, forward_field, outcome_field, message_field, replied_takes, replied_again, replied_clean}
 use Rattle.mr_lines.specs.declared.line.Line.{Line}
+use Rattle.mr_words.specs.Parts.{parts_of}
 use Rattle.mr_lines.specs.declared.line.Line.TheVariants as line
 use Rattle.mr_model.specs.declared.entry.FastRecord.{FastRecord}
 use Rattle.mr_lines.specs.Fields.{nothing_left}
@@ -248,6 +249,10 @@ line_clean l fits = (line_some l, line_free l fits)
 
 pub line_splits : LineSplits
 line_splits l fits = clean_splits (line_words l) (line_clean l fits)
+
+-- a line that fits is read from its bytes
+pub line_read : (l : Line) → LineFits l → line_of (parts_of 32 (spaced (line_words l))) ≡ Some l
+line_read l fits = ap line_of (line_splits l fits) ∙ line_again l fits
 
 pub line_is_one : LineIsOne
 line_is_one l fits = free_one_line (line_words l) (line_free l fits)

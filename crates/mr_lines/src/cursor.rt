@@ -1,10 +1,11 @@
 //! Words cut from the front of a line.
 
-ghost use Rattle.std.specs.Prelude.{◌≡◌, ◌≢◌, ◌<◌, ◌≤◌, ℕ, [], ◌∷◌, length, drop, slice_index, MatchOption};
+ghost use Rattle.std.specs.Prelude.{◌≡◌, ◌≢◌, ◌<◌, ◌≤◌, ℕ, [], ◌∷◌, length, slice_index, MatchOption};
 ghost use Rattle.mr_lines.specs.Bytes.{behind, ends};
 ghost use Rattle.mr_words.specs.Parts.{parts_of};
 
 use memchr::memchr;
+use mr_words::from_index;
 
 /// The index of the first space, or the length where there is none.
 fn word_end(bytes: &[u8]) -> usize
@@ -15,20 +16,12 @@ fn word_end(bytes: &[u8]) -> usize
     memchr(b' ', bytes).unwrap_or(bytes.len())
 }
 
-/// The bytes from an index on.
-fn from(bytes: &[u8], index: usize) -> &[u8]
-    requires { index ≤ length bytes.now }
-    ensures { result.now ≡ drop index bytes.now }
-{
-    &bytes[index..]
-}
-
 /// The first word, and what is left behind it.
 pub fn first_word(bytes: &[u8]) -> (&[u8], &[u8])
     ensures { parts_of 32 bytes.now ≡ result.0.now ∷ behind result.1.now }
 {
     let end = word_end(bytes);
-    (&bytes[..end], from(bytes, end))
+    (&bytes[..end], from_index(bytes, end))
 }
 
 /// The next word of what is left, and what is left behind it.

@@ -38,7 +38,7 @@ fn digits(bytes: &[u8]) -> Option<(u64, &[u8])>
 }
 
 /// The number that begins here, if it is one of 64 bits, and the bytes behind its digits.
-fn leading_number(bytes: &[u8]) -> Option<(u64, &[u8])>
+fn leading_u64(bytes: &[u8]) -> Option<(u64, &[u8])>
     ensures { MatchOption result (number_of 18446744073709551615 (digits_of bytes.now) ≡ None) (λ x. (number_of 18446744073709551615 (digits_of bytes.now) ≡ Some x.0) × (x.1.now ≡ past_digits bytes.now)) }
 {
     if !begins_number(bytes) {
@@ -52,7 +52,7 @@ fn leading_number(bytes: &[u8]) -> Option<(u64, &[u8])>
 pub fn first_u64(bytes: &[u8]) -> Option<(u64, &[u8])>
     ensures { Gives (λ r. r.now) result (u64 (parts_of 32 bytes.now)) }
 {
-    match leading_number(bytes) {
+    match leading_u64(bytes) {
         None => None,
         Some((number, left)) => {
             if ends(left) {

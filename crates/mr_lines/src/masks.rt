@@ -9,8 +9,9 @@ ghost use Rattle.mr_words.specs.Parts.{before, parts_behind, parts_of};
 
 use crate::cursor::ends;
 use crate::fields::past_dash;
-use crate::numbers::{leading_number, past};
+use crate::numbers::leading_number;
 use mr_base::Mask;
+use mr_words::behind_first;
 
 /// A mask with one vif more, which is above those that it has.
 #[inline(always)]
@@ -54,7 +55,7 @@ fn vifs(bytes: &[u8]) -> Option<(u32, &[u8])>
                     return None;
                 }
                 least = vif + 1;
-                left = past(after);
+                left = behind_first(after);
             }
         }
     }

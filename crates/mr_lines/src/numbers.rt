@@ -8,7 +8,7 @@ ghost use Rattle.mr_words.specs.Numbers.{digit_on, is_digit, number_of};
 ghost use Rattle.mr_words.specs.Parts.{parts_of};
 
 use crate::cursor::ends;
-use mr_words::is_digit;
+use mr_words::{behind_first, is_digit};
 
 /// Whether a number may begin here: a digit, and it is no zero before other digits.
 #[inline(always)]
@@ -55,15 +55,6 @@ fn digits(first: u64, bytes: &[u8], most: u32) -> Option<(u32, &[u8])>
     Some((value as u32, left))
 }
 
-/// The bytes behind the first.
-#[inline(always)]
-pub fn past(bytes: &[u8]) -> &[u8]
-    requires { 0 < length bytes.now }
-    ensures { bytes.now ≡ slice_index bytes.now 0 ∷ result.now }
-{
-    &bytes[1..]
-}
-
 /// The number that begins here, if it is at most `most`, and the bytes behind its digits.
 #[inline(always)]
 pub fn leading_number(bytes: &[u8], most: u32) -> Option<(u32, &[u8])>
@@ -75,7 +66,7 @@ pub fn leading_number(bytes: &[u8], most: u32) -> Option<(u32, &[u8])>
     }
     match grown(0, bytes[0], most) {
         None => None,
-        Some(first) => match digits(first, past(bytes), most) {
+        Some(first) => match digits(first, behind_first(bytes), most) {
             None => None,
             Some((number, left)) => Some((number, left)),
         },

@@ -26,11 +26,21 @@ pub fn past(bytes: &[u8], index: usize) -> &[u8]
 }
 
 /// The bytes from an index on.
-fn from(bytes: &[u8], index: usize) -> &[u8]
+#[inline(always)]
+pub fn from_index(bytes: &[u8], index: usize) -> &[u8]
     requires { index ≤ length bytes.now }
     ensures { result.now ≡ drop index bytes.now }
 {
     &bytes[index..]
+}
+
+/// The bytes behind the first.
+#[inline(always)]
+pub fn behind_first(bytes: &[u8]) -> &[u8]
+    requires { 0 < length bytes.now }
+    ensures { bytes.now ≡ slice_index bytes.now 0 ∷ result.now }
+{
+    &bytes[1..]
 }
 
 /// The first line, and the bytes behind its line feed.
@@ -89,5 +99,5 @@ fn first_word(bytes: &[u8]) -> Option<(&[u8], &[u8])>
     if end == 0 || bytes[0] == b'#' {
         return None;
     }
-    Some((&bytes[..end], from(bytes, end)))
+    Some((&bytes[..end], from_index(bytes, end)))
 }

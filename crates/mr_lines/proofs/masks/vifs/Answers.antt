@@ -26,14 +26,14 @@ returns-then-not-is_comma c =
     ∙ vif_broken c.vifs.least c.vifs.mask c.vifs.left.now c.in-Some.after.now c.in-Some.ensures.number.1 (sym c.ends.ensures ∙ c.if-ends.false) (no_comma c.in-Some.after.now (sym c.is_comma.ensures ∙ c.if-not-is_comma.true))
 
 pub vifs-smaller : goal.vifs-smaller
-vifs-smaller c = shorter _ c.vifs.left.now c.in-Some.after.now c.past-left.result.now c.in-Some.ensures.number.1 c.past-left.ensures
+vifs-smaller c = shorter _ c.vifs.left.now c.in-Some.after.now c.behind_first-left.result.now c.in-Some.ensures.number.1 c.behind_first-left.ensures
 
 pub vifs-preserved : goal.vifs-preserved
 vifs-preserved c = record {
   same =
-      ap (λ m. vifs_in (c.in-Some.vif + 1) m c.past-left.result.now) c.with_vif-mask.ensures.value
-      ∙ sym (vif_next c.vifs.least c.vifs.mask c.in-Some.vif c.vifs.left.now c.past-left.result.now c.in-Some.ensures.number.0 (omega (arith, c.if-vif-least.false))
-      (comma_first c.vifs.left.now c.in-Some.after.now c.past-left.result.now c.in-Some.ensures.number.1 (sym c.is_comma.ensures ∙ c.if-not-is_comma.false) c.past-left.ensures))
+      ap (λ m. vifs_in (c.in-Some.vif + 1) m c.behind_first-left.result.now) c.with_vif-mask.ensures.value
+      ∙ sym (vif_next c.vifs.least c.vifs.mask c.in-Some.vif c.vifs.left.now c.behind_first-left.result.now c.in-Some.ensures.number.0 (omega (arith, c.if-vif-least.false))
+      (comma_first c.vifs.left.now c.in-Some.after.now c.behind_first-left.result.now c.in-Some.ensures.number.1 (sym c.is_comma.ensures ∙ c.if-not-is_comma.false) c.behind_first-left.ensures))
       ∙ c.vifs.invariant.same;
   below = c.with_vif-mask.ensures.below;
   few = omega (arith, c.in-Some.ensures.within);

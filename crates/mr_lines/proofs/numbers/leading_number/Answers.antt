@@ -7,4 +7,4 @@ returns-in-None-clause-number c = first_over c.args.most c.args.bytes.now (sym c
 
 pub returns-in-Some-digits-clause-number : goal.returns-in-Some-digits-clause-number
 returns-in-Some-digits-clause-number c =
-    rest_is c.args.most c.in-Some.first c.in-Some-digits.number c.args.bytes.now c.past.result.now c.in-Some-digits.left.now (sym c.begins_number.ensures ∙ c.if-not-begins_number.false) c.past.ensures (omega (arith, c.in-Some.ensures)) c.in-Some-digits.ensures
+    rest_is c.args.most c.in-Some.first c.in-Some-digits.number c.args.bytes.now c.behind_first.result.now c.in-Some-digits.left.now (sym c.begins_number.ensures ∙ c.if-not-begins_number.false) c.behind_first.ensures (omega (arith, c.in-Some.ensures)) c.in-Some-digits.ensures

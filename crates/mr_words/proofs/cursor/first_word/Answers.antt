@@ -12,5 +12,5 @@ returns-then-end-eq0 c =
 
 pub returns : goal.returns
 returns c =
-    rw c.from.ensures
+    rw c.from_index.ensures
     (word_first c.args.bytes.now c.word_end-end.result c.if-end-eq0.false c.word_end-end.ensures.bound c.word_end-end.ensures.clean c.word_end-end.ensures.stops c.if-bytes-eq35.false)

@@ -1,6 +1,6 @@
 use Rattle.std.proofs.Common.{sym, ◌∙◌}
 use Rattle.mr_lines.proofs.ByteLaws.{is_number}
-use Rattle.mr_lines.proofs.long_numbers.leading_number.Goals as goal
+use Rattle.mr_lines.proofs.long_numbers.leading_u64.Goals as goal
 
 pub returns : goal.returns
 returns c =
