@@ -1,11 +1,17 @@
--- The two parts of a record's line: `- INDEX LOOK`, and its packet's way, ` ENTRY IN OUTS` with the line feed.
+-- The parts of a record's line: its head `- INDEX LOOK`, and its packet's way, ` ENTRY IN OUTS` with the line feed.
 use Rattle.std.specs.Prelude.{ℕ, List, [], ◌∷◌, ◌++◌, decimal}
 use Rattle.mr_lines.specs.Forms.{mask, vif_or_none}
 use Rattle.mr_model.specs.declared.entry.FastRecord.{FastRecord}
 use Rattle.mr_records.specs.declared.way.Way.{Way}
 
+abbrev pub index_bytes : ℕ → List ℕ
+index_bytes index = 45 ∷ 32 ∷ decimal index
+
+abbrev pub look_bytes : ℕ → List ℕ
+look_bytes look = 32 ∷ decimal look
+
 abbrev pub head_bytes : ℕ → ℕ → List ℕ
-head_bytes index look = 45 ∷ 32 ∷ decimal index ++ 32 ∷ decimal look
+head_bytes index look = index_bytes index ++ look_bytes look
 
 -- the way of a record's packet
 abbrev pub way_of : FastRecord → Way

@@ -1,45 +1,34 @@
 //! Ways whose bytes are known.
 
-ghost use Rattle.std.specs.Prelude.{◌≡◌, ◌<◌, ◌≤◌, ◌++◌, IfSome, MatchOption, drop, length, take};
+ghost use Rattle.std.specs.Prelude.{◌≡◌, ◌<◌, ◌++◌, IfSome, MatchOption, length, take};
 ghost use Rattle.mr_records.specs.Ways.{way_bytes};
 
+use crate::front::Front;
 use crate::rows::put_way;
-use crate::same::same_bytes;
 use crate::way::Way;
 use mr_base::Mask;
 
 /// A way, and the bytes that say it in a record's line.
 #[derive(Clone, Copy)]
 pub struct Known {
-    /// These bytes, and others behind them.
-    pub row: [u8; 32],
+    pub front: Front,
     pub way: Way,
-    /// How many bytes they are.
-    pub count: u8,
-    pub ghost spelled: { take count row ≡ way_bytes way },
-    pub ghost short: { count ≤ 32 },
-}
-
-/// The bytes from an index on.
-#[inline(always)]
-fn from(bytes: &[u8], index: usize) -> &[u8]
-    requires { index ≤ length bytes.now }
-    ensures { result.now ≡ drop index bytes.now }
-{
-    &bytes[index..]
+    pub ghost spelled: { take front.count front.row ≡ way_bytes way },
 }
 
 impl Known {
     /// A way to begin with.
     pub fn first() -> Known {
         Known {
-            row: *b" 0 - -\n                         ",
+            front: Front {
+                row: *b" 0 - -\n                         ",
+                count: 7,
+            },
             way: Way {
                 entry: 0,
                 input: None,
                 outs: Mask(0),
             },
-            count: 7,
         }
     }
 
@@ -56,9 +45,11 @@ impl Known {
         let mut row = [0u8; 32];
         row[..count].copy_from_slice(&text[at..]);
         Some(Known {
-            row,
+            front: Front {
+                row,
+                count: count as u8,
+            },
             way,
-            count: count as u8,
         })
     }
 
@@ -67,11 +58,6 @@ impl Known {
     pub fn behind<'a>(&self, text: &'a [u8]) -> Option<&'a [u8]>
         ensures { IfSome result (λ rest. text.now ≡ way_bytes self.now.way ++ rest.now) }
     {
-        let front = text.first_chunk::<32>()?;
-        if self.count as usize <= same_bytes(front, &self.row) {
-            Some(from(text, self.count as usize))
-        } else {
-            None
-        }
+        self.front.behind(text)
     }
 }

@@ -2,6 +2,9 @@
 //! of them repeat one of a few ways, whose bytes are kept in mind.
 #![tactic(auto)]
 
+mod front;
+mod heads;
+mod kept;
 mod known;
 mod numbers;
 mod rows;
@@ -13,7 +16,8 @@ mod way;
 mod ways;
 mod writing;
 
-pub use numbers::leading_number;
+pub use kept::Kept;
+pub use numbers::short_number;
 pub use rows::put_mask;
 pub use taking::take_record;
 pub use ways::Ways;

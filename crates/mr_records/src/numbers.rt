@@ -1,17 +1,19 @@
 //! Numbers in front of a text.
 
-ghost use Rattle.std.specs.Prelude.{◌≡◌, ◌<◌, ◌≤◌, ◌++◌, ◌∷◌, [], IfSome, MatchOption, decimal, length, slice_index};
+ghost use Rattle.std.specs.Prelude.{◌≡◌, ◌+◌, ◌<◌, ◌≤◌, ◌++◌, ◌∷◌, [], IfSome, MatchOption, decimal};
 ghost use Rattle.mr_lines.specs.Bytes.{digits_of};
 
-use mr_words::is_digit;
+use mr_words::{behind_first, is_digit};
 
-/// The bytes behind the first.
+/// The digit with which a text begins, and the bytes behind it.
 #[inline(always)]
-fn past(bytes: &[u8]) -> &[u8]
-    requires { 0 < length bytes.now }
-    ensures { bytes.now ≡ slice_index bytes.now 0 ∷ result.now }
+pub fn digit(text: &[u8]) -> Option<(u32, &[u8])>
+    ensures { MatchOption result (digits_of text.now ≡ []) (λ x. (x.0 ≤ 9) × (text.now ≡ (48 + x.0) ∷ x.1.now)) }
 {
-    &bytes[1..]
+    if text.len() == 0 || !is_digit(text[0]) {
+        return None;
+    }
+    Some((u32::from(text[0] - b'0'), behind_first(text)))
 }
 
 /// A number that isn't 0 with the digits behind it, up to nine in all, and the bytes behind them.
@@ -24,11 +26,13 @@ fn digits(first: u32, text: &[u8]) -> (u32, &[u8])
     let mut value = first;
     let mut left = text;
     'digits: while value < 100_000_000 {
-        if left.len() == 0 || !is_digit(left[0]) {
-            return (value, left);
+        match digit(left) {
+            None => return (value, left),
+            Some((next, after)) => {
+                value = value * 10 + next;
+                left = after;
+            }
         }
-        value = value * 10 + u32::from(left[0] - b'0');
-        left = past(left);
     }
     (value, left)
 }
@@ -36,16 +40,13 @@ fn digits(first: u32, text: &[u8]) -> (u32, &[u8])
 /// The number with which a text begins, and the bytes behind it; `None` where no digit is first. It has all digits that stand there,
 /// but no more than nine, and none behind a zero.
 #[inline(always)]
-pub fn leading_number(text: &[u8]) -> Option<(u32, &[u8])>
+pub fn short_number(text: &[u8]) -> Option<(u32, &[u8])>
     ensures text { MatchOption result (digits_of text.now ≡ []) (λ x. text.now ≡ decimal x.0 ++ x.1.now) }
     ensures all { IfSome result (λ x. 0 < x.0 → x.0 < 100000000 → digits_of x.1.now ≡ []) }
 {
-    if text.len() == 0 || !is_digit(text[0]) {
-        return None;
-    }
-    let first = u32::from(text[0] - b'0');
+    let (first, rest) = digit(text)?;
     if first == 0 {
-        return Some((0, past(text)));
+        return Some((0, rest));
     }
-    Some(digits(first, past(text)))
+    Some(digits(first, rest))
 }

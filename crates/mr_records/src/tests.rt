@@ -50,11 +50,11 @@ fn written(rt: HostRuntime) -> Result<(), Fail> {
 
 /// The records in front of a text, and how many bytes are behind them.
 fn take_all(alloc: Global, text: &[u8]) -> Result<(Vec<FastRecord>, usize), AllocError> {
-    let mut ways = Ways::new();
+    let mut kept = Kept::new();
     let mut records = Vec::new(alloc);
     let mut rest = text;
     for _ in 0..text.len() {
-        match take_record(&mut ways, &mut records, rest)? {
+        match take_record(&mut kept, &mut records, rest)? {
             Some(left) => rest = left,
             None => return Ok((records, rest.len())),
         }
@@ -70,34 +70,74 @@ fn taken(rt: HostRuntime) -> Result<(), Fail> {
     Ok(())
 }
 
+/// The records of a line that comes three times, between one of index 100 and look 6 and two others.
+fn take_between(alloc: Global, line: &str) -> Result<Vec<FastRecord>, AllocError> {
+    let mut text = Vec::new(alloc);
+    text.extend_from_slice(b"- 100 6 50 0 1,2\n")?;
+    for _ in 0..3 {
+        text.extend_from_slice(line.as_bytes())?;
+    }
+    text.extend_from_slice(b"- 101 6 50 0 1,2\n- 102 6 50 0 1,2\n")?;
+    let (taken, _) = take_all(alloc, text.as_slice())?;
+    Ok(taken)
+}
+
+#[test]
+fn heads(rt: HostRuntime) -> Result<(), Fail> {
+    let cases = [
+        ("- 98 6 50 0 1,2\n", 98, 6),
+        ("- 100 6 50 0 1,2\n", 100, 6),
+        ("- 199 60 50 0 1,2\n", 199, 60),
+        ("- 200 6 50 0 1,2\n", 200, 6),
+        ("- 1001 6 50 0 1,2\n", 1001, 6),
+        ("- 10010 9 50 0 1,2\n", 10_010, 9),
+        ("- 999999999 0 50 0 1,2\n", 999_999_999, 0),
+        ("- 1000000000 6 50 0 1,2\n", 1_000_000_000, 6),
+    ];
+    for (line, index, look) in cases {
+        let one = record(index, look, Some(0), 6);
+        let first = record(100, 6, Some(0), 6);
+        let last = [record(101, 6, Some(0), 6), record(102, 6, Some(0), 6)];
+        let taken = take_between(rt.alloc(), line)?;
+        assert_eq!(rt;
+            taken.as_slice(),
+            [first, one, one, one, last[0], last[1]].as_slice()
+        );
+    }
+    Ok(())
+}
+
 /// Whether no record is in front of a text, whether or not its way is known.
 fn refuses(alloc: Global, text: &[u8]) -> Result<bool, AllocError> {
-    let mut ways = Ways::new();
+    let mut kept = Kept::new();
     let mut records = Vec::new(alloc);
-    let first = take_record(&mut ways, &mut records, text)?;
-    let line = b"- 1 2 50 0 1,2\n- 1 2 50 0 1,2\n- 1 2 50 0 1,2\n";
-    let known = take_record(&mut ways, &mut records, line)?;
-    let second = take_record(&mut ways, &mut records, text)?;
+    let first = take_record(&mut kept, &mut records, text)?;
+    let line = b"- 100 2 50 0 1,2\n- 100 2 50 0 1,2\n- 100 2 50 0 1,2\n";
+    let known = take_record(&mut kept, &mut records, line)?;
+    let second = take_record(&mut kept, &mut records, text)?;
     Ok(first.is_none() && known.is_some() && second.is_none() && records.len() == 1)
 }
 
 #[test]
 fn near_misses(rt: HostRuntime) -> Result<(), Fail> {
     let texts = [
-        "- 3 2 50 0 1,2",
-        "- 03 2 50 0 1,2\n- 4 2 50 0 1,2\n- 5 2 50 0 1,2\n",
-        "- 3  2 50 0 1,2\n- 4 2 50 0 1,2\n- 5 2 50 0 1,2\n",
-        "- 3 02 50 0 1,2\n- 4 2 50 0 1,2\n- 5 2 50 0 1,2\n",
+        "- 103 2 50 0 1,2",
+        "- 0103 2 50 0 1,2\n- 4 2 50 0 1,2\n- 5 2 50 0 1,2\n",
+        "- 103  2 50 0 1,2\n- 4 2 50 0 1,2\n- 5 2 50 0 1,2\n",
+        "- 103 02 50 0 1,2\n- 4 2 50 0 1,2\n- 5 2 50 0 1,2\n",
         "- 4294967296 2 50 0 1,2\n- 4 2 50 0 1,2\n- 5 2 50 0 1,2\n",
-        "- 3 4294967296 50 0 1,2\n- 4 2 50 0 1,2\n- 5 2 50 0 1,2\n",
-        "- 3 2 50 0 1,2 \n- 4 2 50 0 1,2\n- 5 2 50 0 1,2\n",
-        "- 3 2 50 0 1,2,\n- 4 2 50 0 1,2\n- 5 2 50 0 1,2\n",
-        "- 3 2 50 0 1,2\r\n- 4 2 50 0 1,2\n- 5 2 50 0 1,2\n",
-        "- 3 250 0 1,2\n- 4 2 50 0 1,2\n- 5 2 50 0 1,2\n",
-        "-3 2 50 0 1,2\n- 4 2 50 0 1,2\n- 5 2 50 0 1,2\n",
-        " - 3 2 50 0 1,2\n- 4 2 50 0 1,2\n- 5 2 50 0 1,2\n",
-        "3 2 50 0 1,2\n- 4 2 50 0 1,2\n- 5 2 50 0 1,2\n",
-        "- 3 2 50 0 2,1\n- 4 2 50 0 1,2\n- 5 2 50 0 1,2\n",
+        "- 103 4294967296 50 0 1,2\n- 4 2 50 0 1,2\n- 5 2 50 0 1,2\n",
+        "- 103 2 50 0 1,2 \n- 4 2 50 0 1,2\n- 5 2 50 0 1,2\n",
+        "- 103 2 50 0 1,2,\n- 4 2 50 0 1,2\n- 5 2 50 0 1,2\n",
+        "- 103 2 50 0 1,2\r\n- 4 2 50 0 1,2\n- 5 2 50 0 1,2\n",
+        "- 1032 50 0 1,2\n- 4 2 50 0 1,2\n- 5 2 50 0 1,2\n",
+        "- 1x3 2 50 0 1,2\n- 4 2 50 0 1,2\n- 5 2 50 0 1,2\n",
+        "- 10 3 2 50 0 1,2\n- 4 2 50 0 1,2\n- 5 2 50 0 1,2\n",
+        "- 103 250 0 1,2\n- 4 2 50 0 1,2\n- 5 2 50 0 1,2\n",
+        "-103 2 50 0 1,2\n- 4 2 50 0 1,2\n- 5 2 50 0 1,2\n",
+        " - 103 2 50 0 1,2\n- 4 2 50 0 1,2\n- 5 2 50 0 1,2\n",
+        "103 2 50 0 1,2\n- 4 2 50 0 1,2\n- 5 2 50 0 1,2\n",
+        "- 103 2 50 0 2,1\n- 4 2 50 0 1,2\n- 5 2 50 0 1,2\n",
         "- 1 2 parked\n- 4 2 50 0 1,2\n- 5 2 50 0 1,2\n",
         "\n- 4 2 50 0 1,2\n- 5 2 50 0 1,2\n- 6 2 50 0 1,2\n",
         "",
@@ -108,9 +148,9 @@ fn near_misses(rt: HostRuntime) -> Result<(), Fail> {
     Ok(())
 }
 
-/// What `leading_number` gives of a text: the number, and how many bytes are behind it.
+/// What `short_number` gives of a text: the number, and how many bytes are behind it.
 fn leads(text: &str) -> Option<(u32, usize)> {
-    let (number, rest) = leading_number(text.as_bytes())?;
+    let (number, rest) = short_number(text.as_bytes())?;
     Some((number, rest.len()))
 }
 

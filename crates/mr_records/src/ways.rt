@@ -57,7 +57,7 @@ impl Ways {
     /// Keeps a way at the place of its bytes, if these are at most 32.
     pub fn keep_by_bytes(&mut self, way: Way) {
         if let Some(known) = Known::of(way) {
-            self.known[place(known.row.as_slice())] = known;
+            self.known[place(known.front.row.as_slice())] = known;
         }
     }
 }

@@ -63,9 +63,9 @@ fn write_part(out: &mut Vec<u8>, row: &[u8; 80], from: usize, to: usize) -> Resu
 /// Puts a way's bytes, from 24 on.
 #[inline(always)]
 fn put_known(row: &mut [u8; 80], known: &Known)
-    ensures { take 32 (drop 24 row.new) ≡ known.now.row }
+    ensures { take 32 (drop 24 row.new) ≡ known.now.front.row }
 {
-    row[24..56].copy_from_slice(&known.row);
+    row[24..56].copy_from_slice(&known.front.row);
 }
 
 /// Puts the line of a record whose way is known.
@@ -77,7 +77,7 @@ fn write_known(out: &mut Vec<u8>, packet: &FastRecord, known: &Known) -> Result<
     let mut row = [0u8; 80];
     put_known(&mut row, known);
     let at = put_head(&mut row, 24, packet);
-    write_part(out, &row, at, 24 + known.count as usize)
+    write_part(out, &row, at, 24 + known.front.count as usize)
 }
 
 /// Puts the line of any record, and keeps its way.

@@ -2,12 +2,12 @@
 use Rattle.std.proofs.Common.{◌≡◌, ℕ, zero, suc, ◌+◌, ◌==◌, ◌&&◌, ◌≤◌, ◌<◌, Bool, true, false, Option, Some, None, Result, Ok, Err, List, [], ◌∷◌, ◌++◌, length, map, refl, sym, ap, ◌∙◌, arith, lit≤, append-nil, append_assoc, length-append, ◌⊎◌, inl, inr}
 use Rattle.std.specs.Prelude.{if◌then◌else◌, flat_map, option_and_then, take}
 use Rattle.std.specs.List.{AllByRecursion, join_with_byte}
+use Rattle.mr_lines.proofs.LineLaws.{line_read}
 use Rattle.mr_lines.proofs.PartLaws.{line_first}
 use Rattle.mr_lines.specs.Fit.{LineFits}
 use Rattle.mr_lines.specs.Forms.{spaced}
-use Rattle.mr_lines.specs.Laws.{LineAgain, LineSplits, LineIsOne, is_one_line}
+use Rattle.mr_lines.specs.Laws.{LineIsOne, is_one_line}
 use Rattle.mr_lines.specs.Lines.{line_words}
-use Rattle.mr_lines.specs.Reading.{line_of}
 use Rattle.mr_lines.specs.declared.line.Line.{Line}
 use Rattle.mr_lines.specs.declared.skip.Skip.{Skip}
 use Rattle.mr_lines.specs.declared.tail.Tail.{Tail}
@@ -47,32 +47,32 @@ some_behind : {A : Type 0} (xs : List A) (x : A) → 0 < length (xs ++ x ∷ [])
 some_behind xs x = omega (arith, length-append xs (x ∷ []))
 
 -- a line that fits is read from its bytes
-pub line_read : LineAgain → LineSplits → (n : ℕ) (s : State) (l : Line) → LineFits l → line_step n s (piece l) ≡ step n s l
-line_read again splits n s l fits = ap (λ ws. option_and_then (step n s) (line_of ws)) (splits l fits) ∙ ap (option_and_then (step n s)) (again l fits)
+pub line_steps : (n : ℕ) (s : State) (l : Line) → LineFits l → line_step n s (piece l) ≡ step n s l
+line_steps n s l fits = ap (option_and_then (step n s)) (line_read l fits)
 
-walk_lines : LineAgain → LineSplits → (ls : List Line) (s t : State) → Sound s → AllByRecursion LineFits ls → runs s ls ≡ Some t → t.ended ≡ true → walk (next_of s) s (map piece ls ++ [] ∷ []) ≡ Ok t
-walk_lines again splits [] s t k fits e last =
+walk_lines : (ls : List Line) (s t : State) → Sound s → AllByRecursion LineFits ls → runs s ls ≡ Some t → t.ended ≡ true → walk (next_of s) s (map piece ls ++ [] ∷ []) ≡ Ok t
+walk_lines [] s t k fits e last =
     let same : s ≡ t = cc e in
     ap (λ b. if b && true then Ok s else Err (next_of s)) (ap (λ (s : State). s.ended) same ∙ last) ∙ ap Ok same
-walk_lines again splits (l ∷ ls) s t k fits e last =
+walk_lines (l ∷ ls) s t k fits e last =
     let found : (u : State) × (step (next_of s) s l ≡ Some u) × (runs u ls ≡ Some t) = then_some (step (next_of s) s l) (λ u. runs u ls) t e in
     let u : State = found.0 in
     let taken : Takes s l u = step_told s l u k found.1 in
     walk_on (next_of s) s (piece l) (map piece ls ++ [] ∷ []) (some_behind (map piece ls) [])
-    ∙ ap (λ o. line_gives (next_of s) o >>= λ t. walk (next_line (next_of s)) t (map piece ls ++ [] ∷ [])) (line_read again splits (next_of s) s l fits.0 ∙ found.1)
+    ∙ ap (λ o. line_gives (next_of s) o >>= λ t. walk (next_line (next_of s)) t (map piece ls ++ [] ∷ [])) (line_steps (next_of s) s l fits.0 ∙ found.1)
     ∙ ap (λ i. walk i u (map piece ls ++ [] ∷ [])) (next_told s u l taken.1)
-    ∙ walk_lines again splits ls u t taken.0 fits.1 found.2 last
+    ∙ walk_lines ls u t taken.0 fits.1 found.2 last
 
 abbrev read_parts : List Skip → List Entry → Tail → HistoryText
 read_parts ks h t = record { skips = ks; entries = h; tail = t; lines = first_lines ks h }
 
-pub text_is_read : LineAgain → LineSplits → LineIsOne → TextIsRead
-text_is_read again splits one ks h t p =
+pub text_is_read : LineIsOne → TextIsRead
+text_is_read one ks h t p =
     let all : (ls : List ℕ) × (runs first_state (text_lines ks h t) ≡ Some (ended ks h t ls)) = lead_all ks h t p in
     let last : State = ended ks h t all.0 in
     let k : Sound last = runs_sound (text_lines ks h t) first_state last first_sound all.1 in
     let goes : walk 1 first_state (parts_of 10 (text ks h t)) ≡ Ok last =
-    ap (walk 1 first_state) (cut_lines one (text_lines ks h t) p.lines) ∙ walk_lines again splits (text_lines ks h t) first_state last first_sound p.lines all.1 refl in
+    ap (walk 1 first_state) (cut_lines one (text_lines ks h t) p.lines) ∙ walk_lines (text_lines ks h t) first_state last first_sound p.lines all.1 refl in
     let lines : all.0 ≡ first_lines ks h = k.firsts ∙ ap (first_lines ks) (append-nil h) in
     ap parts_result goes ∙ ap (λ ls. Ok (record { skips = ks; entries = h; tail = t; lines = ls })) lines
 

@@ -1,11 +1,11 @@
 -- A settle's line in front of a text.
 use Rattle.std.proofs.Common.{◌≡◌, ℕ, ◌<◌, Option, None, Ok, Some, Err, List, [], ◌∷◌, ◌++◌, length, decimal, append_assoc, sym, ap, ◌∙◌, arith}
 use Rattle.std.specs.Prelude.{codes}
-use Rattle.mr_lines.proofs.LineLaws.{line_again, line_splits, line_is_one}
+use Rattle.mr_lines.proofs.LineLaws.{line_is_one}
 use Rattle.mr_lines.specs.Fit.{LineFits}
 use Rattle.mr_lines.specs.declared.line.Line.{Line}
 use Rattle.mr_lines.specs.declared.line.Line.TheVariants as line
-use Rattle.mr_text.proofs.Pieces.{piece, cut_line, line_read, walk_on}
+use Rattle.mr_text.proofs.Pieces.{piece, cut_line, line_steps, walk_on}
 use Rattle.mr_text.specs.declared.history_text.TextError.{TextError}
 use Rattle.mr_text.specs.declared.history_text.TextError.TheVariants as error
 use Rattle.mr_text.specs.declared.reading_state.State.{State}
@@ -19,7 +19,7 @@ use Rattle.mr_words.specs.Parts.{parts_of}
 walks : (n : ℕ) (s : State) (l : Line) (bytes rest : List ℕ) → LineFits l → bytes ≡ line_text l ++ rest → walk n s (parts_of 10 bytes) ≡ (line_gives n (step n s l) >>= λ t. walk (next_line n) t (parts_of 10 rest))
 walks n s l bytes rest fits is =
     ap (walk n s) (ap (parts_of 10) is ∙ cut_line line_is_one l rest fits) ∙ walk_on n s (piece l) (parts_of 10 rest) (omega arith)
-    ∙ ap (λ o. line_gives n o >>= λ t. walk (next_line n) t (parts_of 10 rest)) (line_read line_again line_splits n s l fits)
+    ∙ ap (λ o. line_gives n o >>= λ t. walk (next_line n) t (parts_of 10 rest)) (line_steps n s l fits)
 
 -- where it may come the text goes on
 pub line_taken : (n next : ℕ) (s t : State) (l : Line) (bytes rest : List ℕ) → LineFits l → bytes ≡ line_text l ++ rest → next ≡ next_line n → step n s l ≡ Some t

@@ -1,5 +1,5 @@
 -- The laws of texts, from the laws of lines.
-use Rattle.mr_lines.proofs.LineLaws.{line_takes, line_again, line_splits, line_is_one}
+use Rattle.mr_lines.proofs.LineLaws.{line_takes, line_is_one}
 use Rattle.mr_lines.proofs.PartLaws.{spaced_again}
 use Rattle.mr_text.specs.Laws.{ReadIsText, TextIsRead, OneText, NoneBegins, LinesBegin}
 use Rattle.mr_text.proofs.Beginning.{lines_begin}
@@ -10,7 +10,7 @@ pub read_law : ReadIsText
 read_law = read_is_text line_takes spaced_again
 
 pub text_law : TextIsRead
-text_law = text_is_read line_again line_splits line_is_one
+text_law = text_is_read line_is_one
 
 pub one_law : OneText
 one_law = one_text text_law

@@ -15,7 +15,7 @@ use crate::steps::step;
 use mr_base::List;
 use mr_lines::{Tail, read_line};
 use mr_model::FastRecord;
-use mr_records::{Ways, take_record};
+use mr_records::{Kept, take_record};
 use mr_words::split_part;
 use std::alloc::{AllocError, Global};
 
@@ -39,7 +39,7 @@ fn first_state(alloc: Global) -> State
 /// Reads records, as many as are due, as long as the next lines are some. They are the most of all lines.
 #[inline(never)]
 fn take_records<'a>(
-    ways: &mut Ways,
+    kept: &mut Kept,
     line: &mut u32,
     records: &mut Vec<FastRecord>,
     left: &mut u64,
@@ -47,11 +47,13 @@ fn take_records<'a>(
 ) -> Result<&'a [u8], AllocError>
     ensures { IfOk result (λ rest. (s : State) (lane : LaneNo) → GoesOn line.old (settling s lane records.old.items left.old) text.now line.new (settling s lane records.new.items left.new) rest.now) }
 {
+    // a legal settle has at most 64
+    records.reserve((*left).min(64) as usize)?;
     let mut rest = text;
     let mut due = *left;
     let mut next = *line;
     'records: while due > 0 {
-        match take_record(ways, records, rest)? {
+        match take_record(kept, records, rest)? {
             None => {
                 *left = due;
                 *line = next;
@@ -71,7 +73,7 @@ fn take_records<'a>(
 
 /// Reads the records of the current settle, if they are due, as long as the next lines are some.
 fn take_due<'a>(
-    ways: &mut Ways,
+    kept: &mut Kept,
     line: &mut u32,
     state: &mut State,
     text: &'a [u8],
@@ -80,7 +82,7 @@ fn take_due<'a>(
 {
     match &mut state.current {
         Current::Settle { records, left, .. } => take_records(
-            ways,
+            kept,
             line,
             &mut records.0,
             left,
@@ -131,9 +133,9 @@ pub fn read_history(alloc: Global, bytes: &[u8]) -> Result<HistoryText, TextErro
     let mut state = first_state(alloc);
     let mut line = 1u32;
     let mut rest = bytes;
-    let mut ways = Ways::new();
+    let mut kept = Kept::new();
     'lines: loop {
-        rest = take_due(&mut ways, &mut line, &mut state, rest)?;
+        rest = take_due(&mut kept, &mut line, &mut state, rest)?;
         match take_settle(alloc, &mut line, &mut state, rest)? {
             Some(after) => rest = after,
             None => match split_part(rest, b'\n') {

@@ -10,7 +10,7 @@ use crate::history_text::TextError;
 use crate::reading_state::State;
 use crate::steps::settle;
 use mr_base::LaneNo;
-use mr_records::leading_number;
+use mr_records::short_number;
 use std::alloc::Global;
 
 /// What is behind a byte, if that is first.
@@ -42,11 +42,11 @@ fn settle_line(text: &[u8]) -> Option<(u32, LaneNo, u32, &[u8])>
     ensures line { IfSome result (λ x. text.now ≡ line_text (said.Settle x.0 x.1 x.2) ++ x.3.now) }
     ensures fits { IfSome result (λ x. LineFits (said.Settle x.0 x.1 x.2)) }
 {
-    let (number, rest) = leading_number(text)?;
+    let (number, rest) = short_number(text)?;
     let rest = past_word(rest)?;
-    let (lane, rest) = leading_number(rest)?;
+    let (lane, rest) = short_number(rest)?;
     let rest = past_byte(rest, b' ')?;
-    let (count, rest) = leading_number(rest)?;
+    let (count, rest) = short_number(rest)?;
     let rest = past_byte(rest, b'\n')?;
     Some((number, LaneNo(lane), count, rest))
 }

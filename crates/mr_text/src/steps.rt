@@ -1,7 +1,6 @@
 //! What one line does to what was read so far. Where it may not come its number is the answer.
 
 ghost use Rattle.std.specs.Prelude.{◌≡◌, [], IfOk, option_and_then};
-ghost use Rattle.mr_lines.specs.Fit.{no_flow};
 ghost use Rattle.mr_lines.specs.declared.line.Line.TheVariants as said;
 ghost use Rattle.mr_text.specs.Answers.{Steps};
 ghost use Rattle.mr_text.specs.Walk.{added, begun, closed, has_no_tail, is_inside, is_next, opened, recorded, released, skipped, step, with_end, with_fate, with_route, with_vif};
@@ -9,7 +8,7 @@ ghost use Rattle.mr_text.specs.Walk.{added, begun, closed, has_no_tail, is_insid
 use crate::history_text::TextError;
 use crate::orders::{route_follows, skip_follows, vif_follows};
 use crate::reading_state::{Current, State};
-use mr_base::{Addr, DaemonNo, Few, LaneNo, List};
+use mr_base::{DaemonNo, Few, LaneNo, List};
 use mr_lines::{Line, RouteLine, Skip, VifLine};
 use mr_model::{Entry, FastRecord, FateLine, Flow, Outcome, ReleasedId, Reply, Request};
 use std::alloc::{AllocError, Global};
@@ -256,7 +255,7 @@ fn slow(
         lane,
         index,
         look,
-        flow: no_flow(),
+        flow: Flow::default(),
         outcome,
     };
     add(line, state, number, entry)
@@ -320,18 +319,5 @@ pub fn step(alloc: Global, line: u32, state: &mut State, read: Line) -> Result<(
         Line::Vif(item) => vif(line, state, item),
         Line::Fate(item) => fate(line, state, item),
         Line::End => end(line, state),
-    }
-}
-
-/// The flow of a packet in a text, where it is not printed.
-fn no_flow() -> Flow
-    ensures { result ≡ no_flow }
-{
-    Flow {
-        dev: 0,
-        src: Addr(0),
-        dst: Addr(0),
-        ttl: 0,
-        length: 0,
     }
 }

@@ -1,10 +1,13 @@
-use Rattle.std.proofs.Common.{sym, ◌∙◌, arith}
-use Rattle.mr_records.proofs.TakingLemmas.{digit_more}
+use Rattle.std.proofs.Common.{◌++◌, decimal, ap, ◌∙◌, arith}
+use Rattle.mr_records.proofs.TakingLemmas.{digit_on}
 use Rattle.mr_records.proofs.numbers.digits.Goals as goal
 
 pub digits-preserved : goal.digits-preserved
 digits-preserved c =
     let l = c.digits in
-    let digit = sym c.is_digit.ensures ∙ c.if-not-is_digit.false in
-    let more = digit_more l.value _ c.from.result _ l.left.now c.past-left.result.now l.invariant.some c.digits-test.true digit c.from.ensures c.past-left.ensures l.invariant.text in
-    record { text = more.0; some = omega arith; short = more.1 }
+    let d = c.in-Some in
+    record {
+      text = l.invariant.text ∙ ap (λ x. decimal l.value ++ x) d.ensures.1 ∙ digit_on l.value d.next d.after.now l.invariant.some c.digits-test.true d.ensures.0;
+      some = omega arith;
+      short = omega (arith, d.ensures.0);
+    }

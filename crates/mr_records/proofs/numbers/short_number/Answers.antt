@@ -1,13 +1,13 @@
-use Rattle.std.proofs.Common.{sym, ap, ◌++◌, decimal, ◌∙◌}
-use Rattle.mr_records.proofs.TakingLemmas.{digit_first}
-use Rattle.mr_records.proofs.numbers.leading_number.Goals as goal
+use Rattle.std.proofs.Common.{◌++◌, decimal, ap, ◌∙◌}
+use Rattle.mr_records.proofs.TakingLemmas.{one_digit}
+use Rattle.mr_records.proofs.numbers.short_number.Goals as goal
 
 pub returns-then-first-eq0-clause-text : goal.returns-then-first-eq0-clause-text
 returns-then-first-eq0-clause-text c =
-    let digit = sym c.is_digit.ensures ∙ c.if-not-is_digit.false in
-    digit_first _ c.from-first.result c.args.text.now c.past.result.now digit c.from-first.ensures c.past.ensures ∙ ap (λ n. decimal n ++ c.past.result.now) c.if-first-eq0.true
+    let d = c.in_ok-first in
+    d.ensures.1 ∙ one_digit d.first d.rest.now d.ensures.0 ∙ ap (λ n. decimal n ++ d.rest.now) c.if-first-eq0.true
 
 pub returns-clause-text : goal.returns-clause-text
 returns-clause-text c =
-    let digit = sym c.is_digit.ensures ∙ c.if-not-is_digit.false in
-    digit_first _ c.from-first.result c.args.text.now c.past-2.result.now digit c.from-first.ensures c.past-2.ensures ∙ c.digits.ensures.text
+    let d = c.in_ok-first in
+    d.ensures.1 ∙ one_digit d.first d.rest.now d.ensures.0 ∙ c.digits.ensures.text
