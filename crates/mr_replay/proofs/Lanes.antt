@@ -17,6 +17,7 @@ use Rattle.mr_scenario.specs.declared.scenario.Scenario.{Scenario}
 use Rattle.mr_scenario.specs.Fits.{packets_in, packets_of}
 use Rattle.mr_scenario.proofs.Each.{all_weaker}
 use Rattle.mr_words.specs.Binds.{◌>>=◌}
+use Rattle.mr_words.proofs.Binds.{bind_ok}
 use Rattle.mr_replay.specs.Loading.{from_on, one_to, run_limits}
 use Rattle.mr_replay.specs.declared.halt.Halt.{Halt}
 use Rattle.mr_replay.specs.declared.halt.Halt.TheVariants as halt
@@ -25,14 +26,6 @@ use Rattle.mr_replay.specs.Machines.{Comes, RunsOn, lane_cost, lanes_cost, numbe
 use Rattle.mr_replay.specs.Made.{items_of}
 use Rattle.mr_replay.specs.Played.{play_daemons, play_given, play_item, play_items, play_lanes, play_phase, play_phases, played}
 use Rattle.mr_replay.proofs.Costing.{packets_more, lane_within}
-
--- a result behind a good one
-abbrev pub Middle : {A B E : Type 0} → Result A E → (A → Result B E) → B → Type 0
-Middle {A} r f y = (x : A) × (r ≡ Ok x) × (f x ≡ Ok y)
-
-pub middle : {A B E : Type 0} (r : Result A E) (f : A → Result B E) (y : B) → (r >>= f) ≡ Ok y → Middle r f y
-middle (Ok x) f y e = (x, refl, e)
-middle (Err z) f y e = absurd (cc)
 
 pub bind_same : {A B E : Type 0} (r : Result A E) (f g : A → Result B E) → ((x : A) → f x ≡ g x) → (r >>= f) ≡ (r >>= g)
 bind_same (Ok x) f g e = e x
@@ -58,7 +51,7 @@ items_given limits h lane n (i ∷ is) g e = sum_by-cons (is_of lane) i is ∙ b
         → (if b then (play_item limits h n i >>= λ m. play_items limits m lane (n + 1) is) else play_items limits h lane n is) ≡ Ok g
         → ◌≡◌ {A = ℕ} ((if b then 1 else 0) + items_of lane is) (if b then packets_in i.given + lane_cost lane is else lane_cost lane is)
     by_test true more e =
-        let b = middle (play_item limits h n i) (λ m. play_items limits m lane (n + 1) is) g e in
+        let b = bind_ok (play_item limits h n i) (λ m. play_items limits m lane (n + 1) is) g e in
         let one : packets_in i.given ≡ 1 = given_bytes limits h i.line i.lane n i.dev i.given b.0 b.1 in
         let rest : items_of lane is ≡ lane_cost lane is = more b.0 (n + 1) b.2 in
         omega (arith, one, rest)
@@ -71,7 +64,7 @@ lanes_few : (limits : Limits) (h : List Entry) (lane : ℕ) (ns : List ℕ) (is 
     → AllByRecursion (λ n. n + (packets_among is + more) ≤ most) ns → AllByRecursion (λ n. n + more ≤ most) (numbers_behind lane ns is)
 lanes_few limits h lane [] is g more most e a = tt
 lanes_few limits h lane (n ∷ ns) is g more most e a =
-    let b = middle (play_items limits h lane n is) (λ m. run_lanes limits m (lane + 1) ns is) g e in
+    let b = bind_ok (play_items limits h lane n is) (λ m. run_lanes limits m (lane + 1) ns is) g e in
     let given : items_of lane is ≡ lane_cost lane is = items_given limits h lane n is b.0 b.1 in
     let within : lane_cost lane is ≤ packets_among is = lane_within lane is in
     (omega (arith, given, within, a.0), lanes_few limits b.0 (lane + 1) ns is g more most b.2 a.1)
@@ -79,8 +72,8 @@ lanes_few limits h lane (n ∷ ns) is g more most e a =
 phase_few : (limits : Limits) (h : List Entry) (ds ns : List ℕ) (p : Phase) (g : List Entry) (more most : ℕ) → run_phase limits h ds ns p ≡ Ok g
     → AllByRecursion (λ n. n + (packets_among p.items + more) ≤ most) ns → AllByRecursion (λ n. n + more ≤ most) (numbers_behind 1 ns p.items)
 phase_few limits h ds ns p g more most e a =
-    let b = middle (play_daemons limits h p.script ds) (λ m. run_lanes limits m 1 ns p.items >>= λ k. Ok (k ++ EndPhase ∷ [])) g e in
-    let c = middle (run_lanes limits b.0 1 ns p.items) (λ k. Ok (k ++ EndPhase ∷ [])) g b.2 in
+    let b = bind_ok (play_daemons limits h p.script ds) (λ m. run_lanes limits m 1 ns p.items >>= λ k. Ok (k ++ EndPhase ∷ [])) g e in
+    let c = bind_ok (run_lanes limits b.0 1 ns p.items) (λ k. Ok (k ++ EndPhase ∷ [])) g b.2 in
     lanes_few limits b.0 1 ns p.items c.0 more most c.1 a
 
 -- a phase and those behind it
