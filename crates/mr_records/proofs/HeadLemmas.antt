@@ -1,7 +1,7 @@
 -- The bytes of a head in front of a text.
-use Rattle.std.proofs.Common.{◌≡◌, ℕ, ◌+◌, ◌*◌, ◌/◌, ◌%◌, ◌^◌, ◌<◌, ◌≤◌, List, [], ◌∷◌, ◌++◌, length, take, decimal, sym, ap, ◌∙◌, arith, append_assoc, length-append, lit<}
+use Rattle.std.proofs.Common.{◌≡◌, ℕ, ◌+◌, ◌*◌, ◌/◌, ◌%◌, ◌<◌, ◌≤◌, List, [], ◌∷◌, ◌++◌, length, take, decimal, sym, ap, ◌∙◌, arith, length-append, lit<}
 use Rattle.std.proofs.Math.Seq.{take-append_seam}
-use Rattle.std.proofs.lemmas.Fmt.{decimal_digit, decimal_step}
+use Rattle.std.proofs.lemmas.Fmt.{decimal_digit}
 use Rattle.mr_records.proofs.TakingLemmas.{digit_on}
 use Rattle.mr_records.specs.Ways.{index_bytes, look_bytes}
 
@@ -23,19 +23,19 @@ index_on hundreds tens ones text more less rest some short ten one is first seco
     ∙ ap (λ x. decimal (hundreds * 10 + tens) ++ x) second ∙ digit_on (hundreds * 10 + tens) ones rest (omega arith) (omega (arith, ten)) one)
 
 -- an index of two digits or more is its tens and a last digit
-index_tens : (index : ℕ) (text behind : List ℕ) → 10 ≤ index → index < 2 ^ 32 → text ≡ index_bytes index ++ behind → text ≡ index_bytes (index / 10) ++ ((48 + index % 10) ∷ behind)
-index_tens index text behind large fits is =
-    let steps : decimal index ≡ decimal (index / 10) ++ ((48 + index % 10) ∷ []) = decimal_step index large (omega arith) in
-    is ∙ ap (λ ds. 45 ∷ 32 ∷ (ds ++ behind)) steps ∙ ap (λ x. 45 ∷ 32 ∷ x) (append_assoc (decimal (index / 10)) ((48 + index % 10) ∷ []) behind)
+index_tens : (index : ℕ) (text behind : List ℕ) → 10 ≤ index → index < 1000000000 → text ≡ index_bytes index ++ behind → text ≡ index_bytes (index / 10) ++ ((48 + index % 10) ∷ behind)
+index_tens index text behind large short is =
+    let parts : index ≡ index / 10 * 10 + index % 10 = omega arith in
+    is ∙ ap (λ n. index_bytes n ++ behind) parts ∙ ap (λ x. 45 ∷ 32 ∷ x) (sym (digit_on (index / 10) (index % 10) behind (omega arith) (omega arith) (omega arith)))
 
 -- the hundreds of an index in front of a text
-pub hundreds_front : (index : ℕ) (text behind : List ℕ) (count : ℕ) → 100 ≤ index → index < 2 ^ 32 → text ≡ index_bytes index ++ behind → count + 2 + length behind ≡ length text
+pub hundreds_front : (index : ℕ) (text behind : List ℕ) (count : ℕ) → 100 ≤ index → index < 1000000000 → text ≡ index_bytes index ++ behind → count + 2 + length behind ≡ length text
     → take count text ≡ index_bytes (index / 100)
-hundreds_front index text behind count large fits is long =
+hundreds_front index text behind count large short is long =
     let tens = index / 10 in
     let last = (48 + index % 10) ∷ behind in
     let same : tens / 10 ≡ index / 100 = omega arith in
-    front_part text (index_bytes (tens / 10)) ((48 + tens % 10) ∷ last) count (index_tens tens text last (omega arith) (omega arith) (index_tens index text behind (omega arith) fits is)) (omega (arith, long))
+    front_part text (index_bytes (tens / 10)) ((48 + tens % 10) ∷ last) count (index_tens tens text last (omega arith) (omega arith) (index_tens index text behind (omega arith) short is)) (omega (arith, long))
     ∙ ap index_bytes same
 
 -- the hundreds of 100, and look 0

@@ -4,7 +4,6 @@
 
 mod front;
 mod heads;
-mod kept;
 mod known;
 mod numbers;
 mod rows;
@@ -16,9 +15,8 @@ mod way;
 mod ways;
 mod writing;
 
-pub use kept::Kept;
 pub use numbers::short_number;
 pub use rows::put_mask;
-pub use taking::take_record;
+pub use taking::{Kept, take_record};
 pub use ways::Ways;
 pub use writing::write_record;

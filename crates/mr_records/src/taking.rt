@@ -9,7 +9,7 @@ ghost use Rattle.mr_records.specs.Taking.{Takes, TakesOnto, first_record};
 ghost use Rattle.mr_records.specs.Ways.{index_bytes, look_bytes};
 ghost use Rattle.mr_words.specs.Parts.{parts_of};
 
-use crate::kept::Kept;
+use crate::heads::Heads;
 use crate::numbers::short_number;
 use crate::way::Way;
 use crate::ways::Ways;
@@ -18,6 +18,23 @@ use mr_lines::read_record;
 use mr_model::{FastRecord, Flow};
 use mr_words::split_part;
 use std::alloc::AllocError;
+
+/// What a reader keeps in mind of the records that it took: their ways, and the last head.
+#[derive(Drop)]
+pub struct Kept {
+    ways: Ways,
+    heads: Heads,
+}
+
+impl Kept {
+    /// Before the first record.
+    pub fn new() -> Kept {
+        Kept {
+            ways: Ways::new(),
+            heads: Heads::new(),
+        }
+    }
+}
 
 /// `- INDEX`, and the bytes behind it.
 #[inline(always)]

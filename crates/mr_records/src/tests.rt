@@ -107,7 +107,7 @@ fn heads(rt: HostRuntime) -> Result<(), Fail> {
     Ok(())
 }
 
-/// Whether no record is in front of a text, whether or not its way is known.
+/// Whether no record is in front of a text, before its head and its way are known and behind a record with both.
 fn refuses(alloc: Global, text: &[u8]) -> Result<bool, AllocError> {
     let mut kept = Kept::new();
     let mut records = Vec::new(alloc);
@@ -144,6 +144,30 @@ fn near_misses(rt: HostRuntime) -> Result<(), Fail> {
     ];
     for text in texts {
         assert!(rt; refuses(rt.alloc(), text.as_bytes())?);
+    }
+    Ok(())
+}
+
+/// A space and a mask, as they are put at the end of a row.
+fn masked(alloc: Global, outs: u32) -> Result<Vec<u8>, AllocError> {
+    let mut row = [0u8; 144];
+    let at = put_mask(&mut row, 144, Mask(outs));
+    let mut out = Vec::new(alloc);
+    out.extend_from_slice(&row[at..])?;
+    Ok(out)
+}
+
+#[test]
+fn masks(rt: HostRuntime) -> Result<(), Fail> {
+    let cases = [
+        (0, " -"),
+        (1, " 0"),
+        (6, " 1,2"),
+        (0x8000_0000, " 31"),
+        (0x8000_0401, " 0,10,31"),
+    ];
+    for (outs, want) in cases {
+        assert_eq!(rt; masked(rt.alloc(), outs)?.as_slice(), want.as_bytes());
     }
     Ok(())
 }
