@@ -25,10 +25,10 @@ switches_from limits s [] = refl
 switches_from limits s (e ∷ h) =
     switches_from limits (step limits s e) h ∙ ap (λ (w : Switches). fold switches_after w h) (step_switches limits s e)
 
-pub pim_agrees : (limits : Limits) (h : List Entry) → (state limits h).pim ≡ pim h
+pub pim_agrees : (limits : Limits) (h : List Entry) → (state limits h).tables.pim ≡ pim h
 pim_agrees limits h = ap (λ (w : Switches). w.pim) (switches_from limits first_state h)
 
-pub asserts_agrees : (limits : Limits) (h : List Entry) → (state limits h).asserts ≡ asserts h
+pub asserts_agrees : (limits : Limits) (h : List Entry) → (state limits h).tables.asserts ≡ asserts h
 asserts_agrees limits h = ap (λ (w : Switches). w.asserts) (switches_from limits first_state h)
 
 now_from : (limits : Limits) (s : State) (h : List Entry) → (fold (step limits) s h).now ≡ fold (λ a x. a + milliseconds x) s.now h

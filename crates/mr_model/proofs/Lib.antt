@@ -4,4 +4,7 @@ pub mod PushingLists
 pub mod PushingFates
 pub mod Livening
 pub mod Agreement
+pub mod Numbering
+pub mod Changing
 pub mod Unreading
+pub mod Induction

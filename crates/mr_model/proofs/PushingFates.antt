@@ -7,33 +7,28 @@ use Rattle.mr_base.specs.declared.numbers.LaneNo.{LaneNo}
 use Rattle.mr_model.specs.declared.ending.Fate.{Fate}
 use Rattle.mr_model.specs.declared.ending.Fate.TheVariants.{Released, Expired, Flushed}
 use Rattle.mr_model.specs.declared.entry.Entry.{Entry}
-use Rattle.mr_model.specs.declared.entry.Entry.TheVariants.{Call, Slow, Settle, Tick, EndPhase}
+use Rattle.mr_model.specs.declared.entry.Entry.TheVariants.{Slow, Settle, EndPhase}
 use Rattle.mr_model.specs.declared.entry.FastRecord.{FastRecord}
 use Rattle.mr_model.specs.declared.limits.Limits.{Limits}
 use Rattle.mr_model.specs.declared.step.Step.{Step}
 use Rattle.mr_model.specs.declared.step.Step.TheVariants.{Fast, Kept}
-use Rattle.mr_model.specs.Fate.{names, loses, fate_in, fate_from, fate}
+use Rattle.mr_model.specs.Fate.{releases, expires, flushes, fate_in, fate_from, fate}
 use Rattle.mr_model.specs.Laws.{fate_after, is_settle, is_of_no_lane}
 use Rattle.mr_model.specs.Legal.{RecordsAgree, Agrees, LegalFrom, IsLegal}
 use Rattle.mr_model.specs.Lively.{slow_follows, is_last_in_phase, is_lively_at, lively_from}
 use Rattle.mr_model.specs.Past.{is_of_lane}
 use Rattle.mr_model.specs.Unfolded.{fast_in, fast_at, unfolded_from, unfolded}
 
-call_fate : (a b : Bool) (n : ℕ) (rest : Fate) (next : Option Fate) → fate_after (unwrap_or (if a then Some (Released n) else (if b then Some (Flushed n) else None)) rest) next ≡ unwrap_or (if a then Some (Released n) else (if b then Some (Flushed n) else None)) (fate_after rest next)
-call_fate true b n rest next = refl
-call_fate false true n rest next = refl
-call_fate false false n rest next = refl
-
-tick_fate : (b : Bool) (n : ℕ) (rest : Fate) (next : Option Fate) → fate_after (unwrap_or (if b then Some (Expired n) else None) rest) next ≡ unwrap_or (if b then Some (Expired n) else None) (fate_after rest next)
-tick_fate true n rest next = refl
-tick_fate false n rest next = refl
+three_fates : (a b c : Bool) (n : ℕ) (rest : Fate) (next : Option Fate) → fate_after (unwrap_or (if a then Some (Released n) else (if b then Some (Expired n) else (if c then Some (Flushed n) else None))) rest) next ≡ unwrap_or (if a then Some (Released n) else (if b then Some (Expired n) else (if c then Some (Flushed n) else None))) (fate_after rest next)
+three_fates true b c n rest next = refl
+three_fates false true c n rest next = refl
+three_fates false false true n rest next = refl
+three_fates false false false n rest next = refl
 
 -- what an entry makes of a packet is never that it waits
 fate_stays : (limits : Limits) (g : List Entry) (e : Entry) (lane : LaneNo) (index : ℕ) (rest : Fate) (next : Option Fate) → fate_after (unwrap_or (fate_in limits g e lane index) rest) next ≡ unwrap_or (fate_in limits g e lane index) (fate_after rest next)
-fate_stays limits g (Call d r reply released) lane index rest next =
-    call_fate (names released lane index) (loses limits g (Call d r reply released) lane index) (length g + 1) rest next
-fate_stays limits g (Tick d ms) lane index rest next = tick_fate (loses limits g (Tick d ms) lane index) (length g + 1) rest next
-fate_stays limits g e lane index rest next = refl
+fate_stays limits g e lane index rest next =
+    three_fates (releases e lane index) (expires limits g e lane index) (flushes limits g e lane index) (length g + 1) rest next
 
 fate_from_push : (limits : Limits) (g h : List Entry) (e : Entry) (lane : LaneNo) (index : ℕ) → fate_from limits g (h ++ e ∷ []) lane index ≡ fate_after (fate_from limits g h lane index) (fate_in limits (g ++ h) e lane index)
 fate_from_push limits g [] e lane index = rw append-nil refl
@@ -122,19 +117,19 @@ pub lively_push : (limits : Limits) (h : List Entry) (e : Entry) → is_of_no_la
 lively_push limits h e p = lively_from_push limits [] h e p
 
 -- no record of a legal history looks beyond it
-fast_none : (limits : Limits) (g : List Entry) (n index least : ℕ) (rs : List FastRecord) → length g < n → RecordsAgree limits g index least rs → filter (λ r. r.look == n) rs ≡ []
+pub fast_none : (limits : Limits) (g : List Entry) (n index least : ℕ) (rs : List FastRecord) → length g < n → RecordsAgree limits g index least rs → filter (λ r. r.look == n) rs ≡ []
 fast_none limits g n index least [] long a = refl
 fast_none limits g n index least (r ∷ rs) long a =
     let differs : (r.look == n) ≡ false = ne_eqb r.look n (λ same. omega (arith, a.1)) in
     ap (λ (b : Bool). cond b (r ∷ filter (λ x. x.look == n) rs) (filter (λ x. x.look == n) rs)) differs
     ∙ fast_none limits g n r.index r.look rs long a.4
 
-fast_in_within : (limits : Limits) (g : List Entry) (n : ℕ) (e : Entry) → length g < n → Agrees limits g e → fast_in n e ≡ []
+pub fast_in_within : (limits : Limits) (g : List Entry) (n : ℕ) (e : Entry) → length g < n → Agrees limits g e → fast_in n e ≡ []
 fast_in_within limits g n (Settle lane records) long a =
     ap (λ (rs : List FastRecord). map (λ r. Fast lane r) rs) (fast_none limits g n _ _ records long a.all)
 fast_in_within limits g n e long a = refl
 
-fast_at_within : (limits : Limits) (g h : List Entry) (n : ℕ) → length g + length h ≤ n → LegalFrom limits g h → fast_at n h ≡ []
+pub fast_at_within : (limits : Limits) (g h : List Entry) (n : ℕ) → length g + length h ≤ n → LegalFrom limits g h → fast_at n h ≡ []
 fast_at_within limits g [] n long l = refl
 fast_at_within limits g (e ∷ h) n long l =
     let more : length (g ++ e ∷ []) ≡ length g + 1 = length-append g (e ∷ []) in

@@ -13,7 +13,6 @@ use Rattle.mr_model.specs.State.{state}
 use Rattle.mr_model.specs.Now.{milliseconds, now}
 use Rattle.mr_model.specs.Owner.{owner_after, owner}
 use Rattle.mr_model.specs.Switches.{switches_after, switches}
-use Rattle.mr_model.specs.Changes.{change_in, changes_from, changes}
 use Rattle.mr_model.specs.Counts.{Met, met_in, met_from, met, route_sums, route_counts, vif_sums, vif_counts}
 use Rattle.mr_model.specs.Attempt.{attempted_by, attempts_from}
 use Rattle.mr_model.specs.Unread.{pushed_by, pushed}
@@ -27,17 +26,6 @@ switches_push h e = fold_push switches_after _ h e
 
 pub now_push : (h : List Entry) (e : Entry) → now (h ++ e ∷ []) ≡ now h + milliseconds e
 now_push h e = fold_push (λ a x. a + milliseconds x) 0 h e
-
-pub changes_from_push : (n : ℕ) (h : List Entry) (e : Entry) → changes_from n (h ++ e ∷ []) ≡ changes_from n h ++ change_in (n + length h) e
-changes_from_push n [] e = rw (append-nil (change_in n e), add-zero n) refl
-changes_from_push n (x ∷ h) e =
-    let place : n + 1 + length h ≡ n + length (x ∷ h) = omega arith in
-    rw (changes_from_push (n + 1) h e, place) (sym (append_assoc (change_in n x) (changes_from (n + 1) h) (change_in (n + length (x ∷ h)) e)))
-
-pub changes_push : (h : List Entry) (e : Entry) → changes (h ++ e ∷ []) ≡ changes h ++ change_in (length h + 1) e
-changes_push h e =
-    let place : 1 + length h ≡ length h + 1 = omega arith in
-    rw (← place) (changes_from_push 1 h e)
 
 pub met_from_push : (g h : List Entry) (e : Entry) → met_from g (h ++ e ∷ []) ≡ met_from g h ++ met_in (g ++ h) e
 met_from_push g [] e = rw (append-nil (met_in g e), append-nil g) refl

@@ -1,7 +1,9 @@
 -- What one step of the state does to each of its parts.
-use Rattle.std.proofs.Common.{◌≡◌, ℕ, ◌+◌, Bool, true, false, if◌then◌else◌, List, [], ◌∷◌, ◌++◌, reverse, fold, flat_map, refl, ap, sym, ◌∙◌, append_assoc, append-nil, add-zero, Option, Some, None}
+use Rattle.std.proofs.Common.{◌≡◌, ℕ, ◌+◌, Bool, List, [], ◌∷◌, ◌++◌, reverse, fold, flat_map, refl, ap, sym, ◌∙◌, append_assoc, append-nil, add-zero, Option, Some, None}
 use Rattle.std.proofs.lemmas.List.{reverse-append}
 use Rattle.mr_base.specs.declared.numbers.DaemonNo.{DaemonNo}
+use Rattle.mr_base.specs.declared.route.Route.{Route}
+use Rattle.mr_base.specs.declared.vif_record.VifRecord.{VifRecord}
 use Rattle.mr_model.specs.declared.entry.Entry.{Entry}
 use Rattle.mr_model.specs.declared.entry.Entry.TheVariants.{Call, Slow, Tick, Recv}
 use Rattle.mr_model.specs.declared.entry.ReleasedId.{ReleasedId}
@@ -9,64 +11,28 @@ use Rattle.mr_model.specs.declared.limits.Limits.{Limits}
 use Rattle.mr_model.specs.declared.outcome.Outcome.{Outcome}
 use Rattle.mr_model.specs.declared.outcome.Outcome.TheVariants as outcome
 use Rattle.mr_model.specs.declared.outcome.Report.TheVariants as report
-use Rattle.mr_model.specs.declared.reply.Reply.{Reply}
 use Rattle.mr_model.specs.declared.reply.Reply.TheVariants.{Good}
 use Rattle.mr_model.specs.declared.request.MfcCtl.{MfcCtl}
 use Rattle.mr_model.specs.declared.request.Request.{Request}
-use Rattle.mr_model.specs.declared.request.Request.TheVariants.{AddMfc, AddProxy, Pim, Assert}
+use Rattle.mr_model.specs.declared.request.Request.TheVariants.{Init, Finish, AddMfc, AddProxy, Pim, Assert}
 use Rattle.mr_model.specs.Messages.{Attempt, attempts_by, told_by}
 use Rattle.mr_model.specs.Now.{milliseconds}
 use Rattle.mr_model.specs.Attempt.{attempted_by}
 use Rattle.mr_model.specs.Owner.{owner_after}
 use Rattle.mr_model.specs.Switches.{Switches, switches_after}
-use Rattle.mr_model.specs.State.{State, step, called, granted, with_route, after_released, truth, is_same}
-
--- a later state with the count, the moment and the attempts of s
-pub record Keeps (s t : State) : Type 0 where
-  pub count : t.count ≡ s.count
-  pub now : t.now ≡ s.now
-  pub attempts : t.attempts ≡ s.attempts
-
--- one with the owner, the switches and the unread reports of s too
-pub record KeepsMore (s t : State) : Type 0 where
-  pub kept : Keeps s t
-  pub owner : t.owner ≡ s.owner
-  pub pim : t.pim ≡ s.pim
-  pub asserts : t.asserts ≡ s.asserts
-  pub unread : t.unread ≡ s.unread
-
-pub keeps : (s : State) → Keeps s s
-keeps s = record { count = refl; now = refl; attempts = refl }
-
-pub keeps_more_if : (s : State) (b : Bool) (x y : State) → KeepsMore s x → KeepsMore s y → KeepsMore s (if b then x else y)
-keeps_more_if s true x y k l = k
-keeps_more_if s false x y k l = l
-
-pub keeps_if : (s : State) (b : Bool) (x y : State) → Keeps s x → Keeps s y → Keeps s (if b then x else y)
-keeps_if s true x y k l = k
-keeps_if s false x y k l = l
-
-pub with_route_keeps : (s : State) (d : DaemonNo) (c : MfcCtl) (parent : Option ℕ) → KeepsMore s (with_route s d c parent)
-with_route_keeps s d c parent = keeps_more_if s _ _ _
-    (record { kept = record { count = refl; now = refl; attempts = refl }; owner = refl; pim = refl; asserts = refl; unread = refl })
-    (record { kept = record { count = refl; now = refl; attempts = refl }; owner = refl; pim = refl; asserts = refl; unread = refl })
-
-pub granted_keeps : (limits : Limits) (s : State) (d : DaemonNo) (r : Request) → Keeps s (granted limits s d r)
-granted_keeps limits s d (AddMfc c) = (with_route_keeps s d c None).kept
-granted_keeps limits s d (AddProxy c) = (with_route_keeps s d c (Some c.parent)).kept
-granted_keeps limits s d (Pim n) = keeps_if s (is_same (truth n) s.pim) _ _ (keeps s) (record { count = refl; now = refl; attempts = refl })
-granted_keeps limits s d r = record { count = refl; now = refl; attempts = refl }
+use Rattle.mr_model.specs.Tables.{Tables, vifs_after, changed_by}
+use Rattle.mr_model.specs.Granting.{route_change, numbered}
+use Rattle.mr_model.specs.State.{State, step, granted, after_released}
 
 -- what the released packets of a call leave as it was
 pub record Releases (s : State) (rs : List ReleasedId) (t : State) : Type 0 where
   pub count : t.count ≡ s.count
   pub owner : t.owner ≡ s.owner
-  pub pim : t.pim ≡ s.pim
-  pub asserts : t.asserts ≡ s.asserts
-  pub vifs : t.vifs ≡ s.vifs
+  pub tables : t.tables ≡ s.tables
+  pub waiting : t.waiting ≡ s.waiting
   pub now : t.now ≡ s.now
   pub attempts : t.attempts ≡ reverse (flat_map (λ x. attempts_by s.now x.outcome) rs) ++ s.attempts
-  pub unread : t.unread ≡ s.unread ++ flat_map (λ x. told_by s.vifs x.lane x.index x.outcome) rs
+  pub unread : t.unread ≡ s.unread ++ flat_map (λ x. told_by s.tables.vifs x.lane x.index x.outcome) rs
 
 -- an outcome makes one attempt at most
 pub one_attempt : (now : ℕ) (o : Outcome) → reverse (attempts_by now o) ≡ attempts_by now o
@@ -79,16 +45,15 @@ pub released_does : (s : State) (rs : List ReleasedId) → Releases s rs (fold a
 released_does s [] = record {
   count = refl;
   owner = refl;
-  pim = refl;
-  asserts = refl;
-  vifs = refl;
+  tables = refl;
+  waiting = refl;
   now = refl;
   attempts = refl;
   unread = sym (append-nil s.unread);
 }
 released_does s (r ∷ rs) =
     let more = released_does (after_released s r) rs in
-    let tells = told_by s.vifs r.lane r.index r.outcome in
+    let tells = told_by s.tables.vifs r.lane r.index r.outcome in
     let tried = attempts_by s.now r.outcome in
     let others = flat_map (λ x. attempts_by s.now x.outcome) rs in
     let joined : reverse (tried ++ others) ++ s.attempts ≡ reverse others ++ (tried ++ s.attempts) =
@@ -96,9 +61,8 @@ released_does s (r ∷ rs) =
     record {
       count = more.count;
       owner = more.owner;
-      pim = more.pim;
-      asserts = more.asserts;
-      vifs = more.vifs;
+      tables = more.tables;
+      waiting = more.waiting;
       now = more.now;
       attempts = more.attempts ∙ sym joined;
       unread = more.unread ∙ append_assoc s.unread tells _;
@@ -106,7 +70,7 @@ released_does s (r ∷ rs) =
 
 pub step_count : (limits : Limits) (s : State) (e : Entry) → (step limits s e).count ≡ s.count + 1
 step_count limits s (Call d r Good released) =
-    ap (λ n. n + 1) ((released_does (granted limits s d r) released).count ∙ (granted_keeps limits s d r).count)
+    ap (λ n. n + 1) (released_does (granted limits s d r) released).count
 step_count limits s (Recv d None) = refl
 step_count limits s (Recv d (Some message)) = refl
 step_count limits s (Slow lane index look flow outcome.Parked) = refl
@@ -114,82 +78,65 @@ step_count limits s e = refl
 
 pub step_now : (limits : Limits) (s : State) (e : Entry) → (step limits s e).now ≡ s.now + milliseconds e
 step_now limits s (Call d r Good released) =
-    (released_does (granted limits s d r) released).now ∙ (granted_keeps limits s d r).now ∙ sym (add-zero s.now)
+    (released_does (granted limits s d r) released).now ∙ sym (add-zero s.now)
 step_now limits s (Tick d ms) = refl
 step_now limits s (Recv d None) = sym (add-zero s.now)
 step_now limits s (Recv d (Some message)) = sym (add-zero s.now)
 step_now limits s (Slow lane index look flow outcome.Parked) = sym (add-zero s.now)
 step_now limits s e = sym (add-zero s.now)
 
-called_owner : (limits : Limits) (s : State) (d : DaemonNo) (r : Request) (reply : Reply) (released : List ReleasedId) → (called limits s d r reply released).owner ≡ owner_after s.owner (Call d r reply released)
-called_owner limits s d (AddMfc c) Good released =
-    (released_does (granted limits s d (AddMfc c)) released).owner ∙ (with_route_keeps s d c None).owner
-called_owner limits s d (AddProxy c) Good released =
-    (released_does (granted limits s d (AddProxy c)) released).owner ∙ (with_route_keeps s d c (Some c.parent)).owner
-called_owner limits s d (Pim n) Good released =
-    (released_does (granted limits s d (Pim n)) released).owner ∙ same (is_same (truth n) s.pim)
-  where
-    same : (b : Bool) → (if b then s else record s { pim = truth n; asserts = truth n }).owner ≡ s.owner
-    same true = refl
-    same false = refl
-called_owner limits s d r Good released = (released_does (granted limits s d r) released).owner
-called_owner limits s d r reply released = refl
+granted_owner : (limits : Limits) (s : State) (d : DaemonNo) (r : Request) (released : List ReleasedId) → (granted limits s d r).owner ≡ owner_after s.owner (Call d r Good released)
+granted_owner limits s d Init released = refl
+granted_owner limits s d Finish released = refl
+granted_owner limits s d r released = refl
 
 pub step_owner : (limits : Limits) (s : State) (e : Entry) → (step limits s e).owner ≡ owner_after s.owner e
-step_owner limits s (Call d r reply released) = called_owner limits s d r reply released
+step_owner limits s (Call d r Good released) =
+    (released_does (granted limits s d r) released).owner ∙ granted_owner limits s d r released
+step_owner limits s (Call d Init reply released) = refl
+step_owner limits s (Call d Finish reply released) = refl
+step_owner limits s (Call d r reply released) = refl
 step_owner limits s (Recv d None) = refl
 step_owner limits s (Recv d (Some message)) = refl
 step_owner limits s (Slow lane index look flow outcome.Parked) = refl
 step_owner limits s e = refl
 
+abbrev pub switches_in : Tables → Switches
+switches_in t = record { pim = t.pim; asserts = t.asserts }
+
 abbrev pub switches_of : State → Switches
-switches_of s = record { pim = s.pim; asserts = s.asserts }
+switches_of s = switches_in s.tables
 
-switches_equal : (s t : State) → t.pim ≡ s.pim → t.asserts ≡ s.asserts → switches_of t ≡ switches_of s
-switches_equal s t p a = rw (p, a) refl
+-- a change of an entry leaves the vifs and the switches
+pub route_change_vifs : (vifs : List VifRecord) (n : ℕ) (fixed : Bool) (c : MfcCtl) (r : Option Route) → vifs_after vifs n (route_change vifs fixed c r) ≡ vifs
+route_change_vifs vifs n fixed c None = refl
+route_change_vifs vifs n fixed c (Some r) = refl
 
-released_switches : (s : State) (rs : List ReleasedId) → switches_of (fold after_released s rs) ≡ switches_of s
-released_switches s rs =
-    let does = released_does s rs in
-    switches_equal s (fold after_released s rs) does.pim does.asserts
+route_change_switches : (t : Tables) (n : ℕ) (fixed : Bool) (c : MfcCtl) (r : Option Route) → switches_in (changed_by t (numbered n (route_change t.vifs fixed c r))) ≡ switches_in t
+route_change_switches t n fixed c None = refl
+route_change_switches t n fixed c (Some r) = refl
 
-with_route_switches : (s : State) (d : DaemonNo) (c : MfcCtl) (parent : Option ℕ) → switches_of (with_route s d c parent) ≡ switches_of s
-with_route_switches s d c parent =
-    let kept = with_route_keeps s d c parent in
-    switches_equal s (with_route s d c parent) kept.pim kept.asserts
-
-pim_switches : (s : State) (on b : Bool) → switches_of (if b then s else record s { pim = on; asserts = on }) ≡ (if b then switches_of s else record { pim = on; asserts = on })
-pim_switches s on true = refl
-pim_switches s on false = refl
-
-called_switches : (limits : Limits) (s : State) (d : DaemonNo) (r : Request) (reply : Reply) (released : List ReleasedId) → switches_of (called limits s d r reply released) ≡ switches_after (switches_of s) (Call d r reply released)
-called_switches limits s d (AddMfc c) Good released =
-    released_switches (granted limits s d (AddMfc c)) released ∙ with_route_switches s d c None
-called_switches limits s d (AddProxy c) Good released =
-    released_switches (granted limits s d (AddProxy c)) released ∙ with_route_switches s d c (Some c.parent)
-called_switches limits s d (Pim n) Good released =
-    released_switches (granted limits s d (Pim n)) released ∙ pim_switches s (truth n) (is_same (truth n) s.pim)
-called_switches limits s d (Assert n) Good released = released_switches (granted limits s d (Assert n)) released
-called_switches limits s d r Good released = released_switches (granted limits s d r) released
-called_switches limits s d r reply released = refl
+granted_switches : (limits : Limits) (s : State) (d : DaemonNo) (r : Request) (released : List ReleasedId) → switches_of (granted limits s d r) ≡ switches_after (switches_of s) (Call d r Good released)
+granted_switches limits s d (AddMfc c) released = route_change_switches s.tables (s.count + 1) _ c _
+granted_switches limits s d (AddProxy c) released = route_change_switches s.tables (s.count + 1) _ c _
+granted_switches limits s d (Pim n) released = refl
+granted_switches limits s d (Assert n) released = refl
+granted_switches limits s d r released = refl
 
 pub step_switches : (limits : Limits) (s : State) (e : Entry) → switches_of (step limits s e) ≡ switches_after (switches_of s) e
-step_switches limits s (Call d r reply released) = called_switches limits s d r reply released
+step_switches limits s (Call d r Good released) =
+    ap (λ (t : Tables). switches_in t) (released_does (granted limits s d r) released).tables
+    ∙ granted_switches limits s d r released
+step_switches limits s (Call d (Pim n) reply released) = refl
+step_switches limits s (Call d (Assert n) reply released) = refl
+step_switches limits s (Call d r reply released) = refl
 step_switches limits s (Recv d None) = refl
 step_switches limits s (Recv d (Some message)) = refl
 step_switches limits s (Slow lane index look flow outcome.Parked) = refl
 step_switches limits s e = refl
 
-called_attempts : (limits : Limits) (s : State) (d : DaemonNo) (r : Request) (released : List ReleasedId) → (called limits s d r Good released).attempts ≡ reverse (flat_map (λ x. attempts_by s.now x.outcome) released) ++ s.attempts
-called_attempts limits s d r released =
-    let t = granted limits s d r in
-    let kept = granted_keeps limits s d r in
-    let does = released_does t released in
-    does.attempts ∙ ap (λ (n : ℕ). reverse (flat_map (λ x. attempts_by n x.outcome) released) ++ t.attempts) kept.now
-    ∙ ap (λ (old : List Attempt). reverse (flat_map (λ x. attempts_by s.now x.outcome) released) ++ old) kept.attempts
-
 pub step_attempts : (limits : Limits) (s : State) (e : Entry) → (step limits s e).attempts ≡ reverse (attempted_by s.now e) ++ s.attempts
-step_attempts limits s (Call d r Good released) = called_attempts limits s d r released
+step_attempts limits s (Call d r Good released) = (released_does (granted limits s d r) released).attempts
 step_attempts limits s (Recv d None) = refl
 step_attempts limits s (Recv d (Some message)) = refl
 step_attempts limits s (Slow lane index look flow outcome.Parked) = refl

@@ -14,35 +14,22 @@ use Rattle.mr_model.specs.declared.message.MessageId.{MessageId}
 use Rattle.mr_model.specs.declared.outcome.Outcome.TheVariants as outcome
 use Rattle.mr_model.specs.declared.reply.Reply.TheVariants.{Good}
 use Rattle.mr_model.specs.declared.request.Request.{Request}
-use Rattle.mr_model.specs.declared.request.Request.TheVariants.{Finish, AddMfc, AddProxy, Pim}
+use Rattle.mr_model.specs.declared.request.Request.TheVariants.{Finish}
 use Rattle.mr_model.specs.Answer.{if_good, error_of}
 use Rattle.mr_model.specs.Legal.{Agrees, LegalFrom, IsLegal, front, message_for}
 use Rattle.mr_model.specs.State.{State, is_owner, step, called, granted, state}
 use Rattle.mr_model.specs.Unread.{pushed_by, pushed, is_finish, behind_finish, up_to_finish, is_taking, unread}
-use Rattle.mr_model.proofs.Stepping.{released_does, with_route_keeps}
+use Rattle.mr_model.proofs.Stepping.{released_does}
 use Rattle.mr_model.proofs.Pushing.{state_push}
 use Rattle.mr_model.proofs.PushingLists.{pushed_push}
-
-pim_unread : (s : State) (on b : Bool) → (if b then s else record s { pim = on; asserts = on }).unread ≡ s.unread
-pim_unread s on true = refl
-pim_unread s on false = refl
 
 -- a good call that is no MRT_DONE, and the reports of the packets that it releases
 called_unread : (limits : Limits) (s : State) (d : DaemonNo) (r : Request) (released : List ReleasedId) → is_finish (Call d r Good released) ≡ false → (called limits s d r Good released).unread ≡ s.unread ++ pushed_by limits s (Call d r Good released)
 called_unread limits s d Finish released p = cc
-called_unread limits s d (AddMfc c) released p =
-    (released_does (granted limits s d (AddMfc c)) released).unread
-    ∙ ap (λ (old : List MessageId). old ++ pushed_by limits s (Call d (AddMfc c) Good released)) (with_route_keeps s d c None).unread
-called_unread limits s d (AddProxy c) released p =
-    (released_does (granted limits s d (AddProxy c)) released).unread
-    ∙ ap (λ (old : List MessageId). old ++ pushed_by limits s (Call d (AddProxy c) Good released)) (with_route_keeps s d c (Some c.parent)).unread
-called_unread limits s d (Pim n) released p =
-    (released_does (granted limits s d (Pim n)) released).unread
-    ∙ ap (λ (old : List MessageId). old ++ pushed_by limits s (Call d (Pim n) Good released)) (pim_unread s _ _)
 called_unread limits s d r released p = (released_does (granted limits s d r) released).unread
 
 -- an entry that takes no report and is no MRT_DONE only pushes
-step_pushes : (limits : Limits) (s : State) (e : Entry) → is_finish e ≡ false → is_taking e ≡ false → (step limits s e).unread ≡ s.unread ++ pushed_by limits s e
+pub step_pushes : (limits : Limits) (s : State) (e : Entry) → is_finish e ≡ false → is_taking e ≡ false → (step limits s e).unread ≡ s.unread ++ pushed_by limits s e
 step_pushes limits s (Call d r Good released) p q = called_unread limits s d r released p
 step_pushes limits s (Slow lane index look flow outcome.Parked) p q = refl
 step_pushes limits s (Slow lane index look flow o) p q = refl
@@ -55,7 +42,7 @@ if_good_nothing : (errno : Option Errno) → if_good errno [] ≡ []
 if_good_nothing None = refl
 if_good_nothing (Some errno) = refl
 
-finish_unread : (limits : Limits) (g : List Entry) (e : Entry) → is_finish e ≡ true → Agrees limits g e → (step limits (state limits g) e).unread ≡ []
+pub finish_unread : (limits : Limits) (g : List Entry) (e : Entry) → is_finish e ≡ true → Agrees limits g e → (step limits (state limits g) e).unread ≡ []
 finish_unread limits g (Call d Finish Good released) p a =
     let none : released ≡ [] = a.releases ∙ if_good_nothing (error_of limits (state limits g) d Finish) in
     rw none refl
@@ -80,10 +67,10 @@ taking_unread limits g d m a = at_least (state limits g).unread refl
 behind_push : (h : List Entry) (e : Entry) → behind_finish (h ++ e ∷ []) ≡ (if is_finish e then [] else behind_finish h ++ e ∷ [])
 behind_push h e = fold_push _ [] h e
 
-behind_finished : (h : List Entry) (e : Entry) → is_finish e ≡ true → behind_finish (h ++ e ∷ []) ≡ []
+pub behind_finished : (h : List Entry) (e : Entry) → is_finish e ≡ true → behind_finish (h ++ e ∷ []) ≡ []
 behind_finished h e p = behind_push h e ∙ ap (λ (b : Bool). if b then [] else behind_finish h ++ e ∷ []) p
 
-behind_more : (h : List Entry) (e : Entry) → is_finish e ≡ false → behind_finish (h ++ e ∷ []) ≡ behind_finish h ++ e ∷ []
+pub behind_more : (h : List Entry) (e : Entry) → is_finish e ≡ false → behind_finish (h ++ e ∷ []) ≡ behind_finish h ++ e ∷ []
 behind_more h e p = behind_push h e ∙ ap (λ (b : Bool). if b then [] else behind_finish h ++ e ∷ []) p
 
 up_to_finished : (h : List Entry) (e : Entry) → is_finish e ≡ true → up_to_finish (h ++ e ∷ []) ≡ h ++ e ∷ []

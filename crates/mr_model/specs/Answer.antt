@@ -15,8 +15,9 @@ use Rattle.mr_model.specs.declared.request.MfcCtl.{MfcCtl}
 use Rattle.mr_model.specs.declared.request.Request.{Request}
 use Rattle.mr_model.specs.declared.request.Request.TheVariants.{Init, Finish, AddVif, DelVif, AddMfc, DelMfc, AddProxy, DelProxy, Pim, Assert, Flush, Unknown, BadLength, GetVersion, GetPim, GetAssert, VifCount, SgCount}
 use Rattle.mr_model.specs.Refusing.{refuse}
-use Rattle.mr_model.specs.VifList.{vif_at, has_vif, max_vif, add_vif_error, del_vif_error}
-use Rattle.mr_model.specs.RouteList.{is_entry, add_route_error, del_route_error, new_route}
+use Rattle.mr_model.specs.VifList.{vif_at, has_vif, max_vif}
+use Rattle.mr_model.specs.RouteList.{is_entry, new_route}
+use Rattle.mr_model.specs.Granting.{tables_error}
 use Rattle.mr_model.specs.WaitingList.{Waiter, Awaiting, awaiting_of}
 use Rattle.mr_model.specs.State.{State, state, is_owner, is_there, granted, reported}
 use Rattle.mr_model.specs.Outcome.{judged}
@@ -29,24 +30,28 @@ is_admin limits d = nat_lt 0 d.0 && slice_index_or limits.admins (d.0 - 1) false
 abbrev pub permitted : Limits → State → DaemonNo → Option Errno → Option Errno
 permitted limits s d further = refuse (not (is_owner s d || is_admin limits d)) Access further
 
+-- why the tables refuse it
+abbrev pub refused_by_tables : Limits → State → Request → Option Errno
+refused_by_tables limits s r = tables_error limits.entries limits.devices s.tables r
+
 -- Why a request is refused, the checks in their order: access, the record's length, the option, the rules of each request.
 -- MRT_INIT has no check of access, also with a record of wrong length; MRT_DONE is for the owner alone; and what only reads is for all.
 abbrev pub error_of : Limits → State → DaemonNo → Request → Option Errno
 error_of limits s d Init = refuse (is_some s.owner) InUse None
 error_of limits s d Finish = refuse (not (is_owner s d)) Access None
-error_of limits s d (AddVif c) = permitted limits s d (add_vif_error limits.devices s.vifs c)
-error_of limits s d (DelVif i) = permitted limits s d (del_vif_error s.vifs i)
-error_of limits s d (AddMfc c) = permitted limits s d (add_route_error limits.entries s.routes c None)
-error_of limits s d (AddProxy c) = permitted limits s d (add_route_error limits.entries s.routes c (Some c.parent))
-error_of limits s d (DelMfc k) = permitted limits s d (del_route_error s.routes k.src k.dst None)
-error_of limits s d (DelProxy k) = permitted limits s d (del_route_error s.routes k.src k.dst (Some k.parent))
-error_of limits s d (Pim n) = permitted limits s d None
-error_of limits s d (Assert n) = permitted limits s d None
-error_of limits s d (Flush bits) = permitted limits s d None
+error_of limits s d (AddVif c) = permitted limits s d (refused_by_tables limits s (AddVif c))
+error_of limits s d (DelVif i) = permitted limits s d (refused_by_tables limits s (DelVif i))
+error_of limits s d (AddMfc c) = permitted limits s d (refused_by_tables limits s (AddMfc c))
+error_of limits s d (AddProxy c) = permitted limits s d (refused_by_tables limits s (AddProxy c))
+error_of limits s d (DelMfc k) = permitted limits s d (refused_by_tables limits s (DelMfc k))
+error_of limits s d (DelProxy k) = permitted limits s d (refused_by_tables limits s (DelProxy k))
+error_of limits s d (Pim n) = permitted limits s d (refused_by_tables limits s (Pim n))
+error_of limits s d (Assert n) = permitted limits s d (refused_by_tables limits s (Assert n))
+error_of limits s d (Flush bits) = permitted limits s d (refused_by_tables limits s (Flush bits))
 error_of limits s d (Unknown option) = permitted limits s d (Some NoOption)
 error_of limits s d (BadLength option) = if option == 200 then Some Invalid else permitted limits s d (Some Invalid)
-error_of limits s d (VifCount i) = refuse (nat_le (max_vif s.vifs) i) Invalid (refuse (not (has_vif s.vifs i)) NotAvailable None)
-error_of limits s d (SgCount src dst) = refuse (not (list_any (is_entry src dst) s.routes)) NotAvailable None
+error_of limits s d (VifCount i) = refuse (nat_le (max_vif s.tables.vifs) i) Invalid (refuse (not (has_vif s.tables.vifs i)) NotAvailable None)
+error_of limits s d (SgCount src dst) = refuse (not (list_any (is_entry src dst) s.tables.routes)) NotAvailable None
 error_of limits s d _ = None
 
 -- 1 for on, 0 for off
@@ -68,10 +73,10 @@ route_reply g None = Good
 -- entries of one origin and group the first counts.
 abbrev pub value_of : List Entry → State → Request → Reply
 value_of g s GetVersion = Value 0x0305
-value_of g s GetPim = Value (switch_value s.pim)
-value_of g s GetAssert = Value (switch_value s.asserts)
-value_of g s (VifCount i) = vif_reply g (vif_at s.vifs i)
-value_of g s (SgCount src dst) = route_reply g (find (is_entry src dst) s.routes)
+value_of g s GetPim = Value (switch_value s.tables.pim)
+value_of g s GetAssert = Value (switch_value s.tables.asserts)
+value_of g s (VifCount i) = vif_reply g (vif_at s.tables.vifs i)
+value_of g s (SgCount src dst) = route_reply g (find (is_entry src dst) s.tables.routes)
 value_of g s _ = Good
 
 abbrev pub or_refused : Option Errno → Reply → Reply
@@ -99,7 +104,7 @@ abbrev pub freed_by : State → MfcCtl → Option ℕ → List Waiter
 freed_by s c parent = if is_there s c parent then [] else packets_of (awaiting_of s.waiting c.src c.dst)
 
 abbrev pub made_route : State → DaemonNo → MfcCtl → Route
-made_route s d c = new_route s.vifs c (not (is_owner s d)) (s.count + 1)
+made_route s d c = new_route s.tables.vifs c (not (is_owner s d)) (s.count + 1)
 
 -- the packets that a good request releases, on the tables after it
 abbrev pub released_in : Limits → State → DaemonNo → Request → List ReleasedId

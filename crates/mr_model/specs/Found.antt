@@ -51,7 +51,7 @@ found_in vifs routes dev src dst = or_else (find (is_entry src dst) routes) (wil
 
 -- the same after a history
 abbrev pub proxy : Limits → List Entry → ℕ → Option Route
-proxy limits h i = proxy_in (state limits h).routes i
+proxy limits h i = proxy_in (state limits h).tables.routes i
 
 abbrev pub found : Limits → List Entry → ℕ → Addr → Addr → Option Route
-found limits h dev src dst = found_in (state limits h).vifs (state limits h).routes dev src dst
+found limits h dev src dst = found_in (state limits h).tables.vifs (state limits h).tables.routes dev src dst

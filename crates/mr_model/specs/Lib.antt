@@ -4,8 +4,11 @@ pub mod VifList
 pub mod RouteList
 pub mod WaitingList
 pub mod Messages
+pub mod Tables
+pub mod Granting
 pub mod State
 pub mod Changes
+pub mod Numbers
 pub mod Owner
 pub mod Switches
 pub mod Vifs

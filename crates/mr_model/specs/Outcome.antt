@@ -27,7 +27,7 @@ is_due now (Some last) = nat_lt (last + 3000) now
 -- Whether a wrong interface is to be reported: assert is on, pim is on or the route reaches the vif, and a report is due.
 abbrev pub asks_report : State → Route → Option ℕ → Bool
 asks_report s r None = false
-asks_report s r (Some i) = s.asserts && (s.pim || reaches r i) && is_due s.now (last_attempt s.attempts r.number)
+asks_report s r (Some i) = s.tables.asserts && (s.tables.pim || reaches r i) && is_due s.now (last_attempt s.attempts r.number)
 
 abbrev pub wrong_report : State → Route → Option ℕ → Report
 wrong_report s r v = if asks_report s r v then (if accepts_in s then Told else Lost) else Quiet
@@ -38,11 +38,12 @@ decided s r (verdict.Forward entry input outs) = Forward entry input outs
 decided s r (verdict.Register entry input outs) = Register entry input outs (accepts_in s)
 decided s r (verdict.Wrong entry vif) = Wrong entry vif (wrong_report s r vif)
 -- no route's verdict is a miss
-decided s r _ = Parked
+decided s r (verdict.Miss vif) = Parked
+decided s r verdict.NoVif = Parked
 
 -- the outcome of a packet that meets this route
 abbrev pub judged : State → Route → ℕ → ℕ → Outcome
-judged s r dev ttl = decided s r (judge_in s.vifs s.routes r dev ttl)
+judged s r dev ttl = decided s r (judge_in s.tables.vifs s.tables.routes r dev ttl)
 
 -- a packet whose source and group have no waiting entry
 abbrev pub parks_new : Limits → State → Outcome
@@ -62,11 +63,11 @@ unmet limits s flow None = Dropped cause.NoVif
 unmet limits s flow (Some i) = joins limits s (awaiting_of s.waiting flow.src flow.dst)
 
 abbrev pub outcome_met : Limits → State → Flow → Option Route → Outcome
-outcome_met limits s flow None = unmet limits s flow (vif_on s.vifs flow.dev)
+outcome_met limits s flow None = unmet limits s flow (vif_on s.tables.vifs flow.dev)
 outcome_met limits s flow (Some r) = judged s r flow.dev flow.ttl
 
 abbrev pub outcome_in : Limits → State → Flow → Outcome
-outcome_in limits s flow = outcome_met limits s flow (found_in s.vifs s.routes flow.dev flow.src flow.dst)
+outcome_in limits s flow = outcome_met limits s flow (found_in s.tables.vifs s.tables.routes flow.dev flow.src flow.dst)
 
 -- the outcome of a packet after a history
 abbrev pub outcome : Limits → List Entry → Flow → Outcome

@@ -73,6 +73,18 @@ abbrev pub remove_first : (Route → Bool) → List Route → List Route
 remove_first test [] = []
 remove_first test (r ∷ rs) = if test r then rs else r ∷ remove_first test rs
 
+-- An entry's number, that of the call which made it, names it: no two entries have one.
+abbrev pub has_number : ℕ → Route → Bool
+has_number n r = r.number == n
+
+-- an entry that changes keeps its number, origin and group
+abbrev pub changed_to : ℕ → List ℕ → Bool → Route → Route
+changed_to parent ttls fixed r = record r { parent = parent; ttls = ttls; fixed = fixed }
+
+-- the entries without the static ones, where `fixed`, and without the others, where `loose`
+abbrev pub routes_left : Bool → Bool → List Route → List Route
+routes_left loose fixed routes = filter (λ r. not (if r.fixed then fixed else loose)) routes
+
 -- MRT_FLUSH: flag 1 (MRT_FLUSH_MFC) removes the entries that are not static, 2 (MRT_FLUSH_MFC_STATIC) those that are.
 abbrev pub routes_kept : ℕ → List Route → List Route
-routes_kept bits routes = filter (λ r. not (has_flag bits (if r.fixed then 2 else 1))) routes
+routes_kept bits routes = routes_left (has_flag bits 1) (has_flag bits 2) routes

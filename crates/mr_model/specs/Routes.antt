@@ -6,4 +6,4 @@ use Rattle.mr_model.specs.declared.limits.Limits.{Limits}
 use Rattle.mr_model.specs.State.{state}
 
 abbrev pub routes : Limits → List Entry → List Route
-routes limits h = (state limits h).routes
+routes limits h = (state limits h).tables.routes

@@ -1,10 +1,8 @@
 -- What the machine knows after a history: one fold of one step over its entries.
-use Rattle.std.specs.Prelude.{ℕ, ◌+◌, ◌==◌, Bool, true, false, not, is_some, if◌then◌else◌, Option, Some, None, unwrap_or, List, [], ◌∷◌, ◌++◌, drop, fold}
+use Rattle.std.specs.Prelude.{ℕ, ◌+◌, ◌==◌, Bool, false, not, is_some, if◌then◌else◌, Option, Some, None, unwrap_or, List, [], ◌∷◌, ◌++◌, drop, fold}
 use Rattle.std.specs.List.{list_any}
 use Rattle.mr_base.specs.declared.numbers.DaemonNo.{DaemonNo}
 use Rattle.mr_base.specs.declared.numbers.LaneNo.{LaneNo}
-use Rattle.mr_base.specs.declared.route.Route.{Route}
-use Rattle.mr_base.specs.declared.vif_record.VifRecord.{VifRecord}
 use Rattle.mr_model.specs.declared.entry.Entry.{Entry}
 use Rattle.mr_model.specs.declared.entry.Entry.TheVariants.{Call, Slow, Settle, Tick, Recv, EndPhase}
 use Rattle.mr_model.specs.declared.entry.ReleasedId.{ReleasedId}
@@ -18,22 +16,19 @@ use Rattle.mr_model.specs.declared.reply.Reply.TheVariants as reply
 use Rattle.mr_model.specs.declared.request.MfcCtl.{MfcCtl}
 use Rattle.mr_model.specs.declared.request.Request.{Request}
 use Rattle.mr_model.specs.declared.request.Request.TheVariants as request
-use Rattle.mr_model.specs.VifList.{vif_on, new_vif, without_vif, vifs_kept, has_flag}
-use Rattle.mr_model.specs.RouteList.{is_named, new_route, changed_route, change_first, remove_first, routes_kept}
+use Rattle.mr_model.specs.VifList.{vif_on, has_flag}
+use Rattle.mr_model.specs.RouteList.{is_named}
 use Rattle.mr_model.specs.WaitingList.{Awaiting, awaiting_of, park, without_awaiting, unexpired}
 use Rattle.mr_model.specs.Messages.{Attempt, told_by, attempts_by, no_cache}
+use Rattle.mr_model.specs.Tables.{Tables, no_tables}
+use Rattle.mr_model.specs.Granting.{what_of, tables_with}
 
 pub record State : Type 0 where
   -- how many entries there are
   pub count : ℕ
   -- the daemon whose Init holds
   pub owner : Option DaemonNo
-  pub pim : Bool
-  pub asserts : Bool
-  -- in the order in which they were added
-  pub vifs : List VifRecord
-  -- newest first
-  pub routes : List Route
+  pub tables : Tables
   -- milliseconds since the beginning
   pub now : ℕ
   pub waiting : List Awaiting
@@ -46,10 +41,7 @@ abbrev pub first_state : State
 first_state = record {
   count = 0;
   owner = None;
-  pim = false;
-  asserts = false;
-  vifs = [];
-  routes = [];
+  tables = no_tables;
   now = 0;
   waiting = [];
   unread = [];
@@ -63,60 +55,44 @@ is_owner s d = owned_by s.owner
     owned_by None = false
     owned_by (Some o) = o.0 == d.0
 
--- the truth value of a number
-abbrev pub truth : ℕ → Bool
-truth n = not (n == 0)
-
--- MRT_FLUSH; flag 1 drops the waiting packets too
-abbrev pub flushed : State → ℕ → State
-flushed s bits = record s {
-  vifs = vifs_kept bits s.vifs;
-  routes = routes_kept bits s.routes;
-  waiting = if has_flag bits 1 then [] else s.waiting;
-}
-
 -- whether an entry of this name is there
 abbrev pub is_there : State → MfcCtl → Option ℕ → Bool
-is_there s c parent = list_any (is_named c.src c.dst parent) s.routes
+is_there s c parent = list_any (is_named c.src c.dst parent) s.tables.routes
 
--- MRT_ADD_MFC: the first entry of the name changes in place; else a new one stands in front, numbered as this
--- call, and takes the waiting packets of its origin and group.
-abbrev pub with_route : State → DaemonNo → MfcCtl → Option ℕ → State
-with_route s d c parent =
-    if is_there s c parent
-    then record s { routes = change_first (is_named c.src c.dst parent) (changed_route s.vifs c (not (is_owner s d))) s.routes }
-    else record s {
-      routes = new_route s.vifs c (not (is_owner s d)) (s.count + 1) ∷ s.routes;
-      waiting = without_awaiting s.waiting c.src c.dst;
-    }
+-- MRT_INIT makes the daemon the owner, MRT_DONE leaves none.
+abbrev pub owner_by : Option DaemonNo → DaemonNo → Request → Option DaemonNo
+owner_by owner d request.Init = Some d
+owner_by owner d request.Finish = None
+owner_by owner d _ = owner
 
-abbrev pub is_same : Bool → Bool → Bool
-is_same true b = b
-is_same false b = not b
+-- A new entry takes the packets that wait for its origin and group; MRT_DONE, and MRT_FLUSH with flag 1, drop all.
+abbrev pub waiting_by : State → Request → List Awaiting
+waiting_by s (request.AddMfc c) =
+    if is_there s c None then s.waiting else without_awaiting s.waiting c.src c.dst
+waiting_by s (request.AddProxy c) =
+    if is_there s c (Some c.parent) then s.waiting else without_awaiting s.waiting c.src c.dst
+waiting_by s request.Finish = []
+waiting_by s (request.Flush bits) = if has_flag bits 1 then [] else s.waiting
+waiting_by s _ = s.waiting
 
--- MRT_PIM: where the truth value differs from the present one, pim and assert both become it.
-abbrev pub with_pim : State → Bool → State
-with_pim s on = if is_same on s.pim then s else record s { pim = on; asserts = on }
+-- MRT_DONE empties the unread reports.
+abbrev pub unread_by : List MessageId → Request → List MessageId
+unread_by unread request.Finish = []
+unread_by unread _ = unread
 
 -- What a good call of a daemon changes. What anyone but the owner adds or changes is static.
 abbrev pub granted : Limits → State → DaemonNo → Request → State
-granted limits s d request.Init = record s { owner = Some d }
-granted limits s d request.Finish = flushed (record s { owner = None; unread = [] }) 5
-granted limits s d (request.AddVif c) = record s { vifs = s.vifs ++ new_vif limits.devices c (not (is_owner s d)) (s.count + 1) ∷ [] }
-granted limits s d (request.DelVif i) = record s { vifs = without_vif s.vifs i }
-granted limits s d (request.AddMfc c) = with_route s d c None
-granted limits s d (request.AddProxy c) = with_route s d c (Some c.parent)
-granted limits s d (request.DelMfc k) = record s { routes = remove_first (is_named k.src k.dst None) s.routes }
-granted limits s d (request.DelProxy k) = record s { routes = remove_first (is_named k.src k.dst (Some k.parent)) s.routes }
-granted limits s d (request.Pim n) = with_pim s (truth n)
-granted limits s d (request.Assert n) = record s { asserts = truth n }
-granted limits s d (request.Flush bits) = flushed s bits
-granted limits s d _ = s
+granted limits s d r = record s {
+  owner = owner_by s.owner d r;
+  tables = tables_with s.tables (s.count + 1) (what_of limits.devices s.tables (not (is_owner s d)) r);
+  waiting = waiting_by s r;
+  unread = unread_by s.unread r;
+}
 
 -- what a decided packet tells and attempts
 abbrev pub reported : State → LaneNo → ℕ → Outcome → State
 reported s lane index o = record s {
-  unread = s.unread ++ told_by s.vifs lane index o;
+  unread = s.unread ++ told_by s.tables.vifs lane index o;
   attempts = attempts_by s.now o ++ s.attempts;
 }
 
@@ -127,18 +103,27 @@ after_released s r = reported s r.lane r.index r.outcome
 abbrev pub told_by_parked : State → LaneNo → ℕ → Flow → List MessageId
 told_by_parked s lane index flow =
     if is_some (awaiting_of s.waiting flow.src flow.dst) then []
-    else no_cache (unwrap_or (vif_on s.vifs flow.dev) 0) lane index ∷ []
+    else no_cache (unwrap_or (vif_on s.tables.vifs flow.dev) 0) lane index ∷ []
 
 abbrev pub arrived : State → LaneNo → ℕ → Flow → Outcome → State
 arrived s lane index flow outcome.Parked = record s {
   waiting = park s.waiting s.now (record { lane = lane; index = index; flow = flow });
   unread = s.unread ++ told_by_parked s lane index flow;
 }
-arrived s lane index flow o = reported s lane index o
+arrived s lane index flow (outcome.Forward entry input outs) =
+    reported s lane index (outcome.Forward entry input outs)
+arrived s lane index flow (outcome.Register entry input outs told) =
+    reported s lane index (outcome.Register entry input outs told)
+arrived s lane index flow (outcome.Wrong entry vif report) =
+    reported s lane index (outcome.Wrong entry vif report)
+arrived s lane index flow (outcome.Dropped cause) = reported s lane index (outcome.Dropped cause)
 
 abbrev pub called : Limits → State → DaemonNo → Request → Reply → List ReleasedId → State
 called limits s d r reply.Good released = fold after_released (granted limits s d r) released
-called limits s d r _ released = s
+called limits s d r (reply.Value value) released = s
+called limits s d r (reply.Sg totals) released = s
+called limits s d r (reply.Vif totals) released = s
+called limits s d r (reply.Refused errno) released = s
 
 -- time goes on, and what has waited for ten seconds expires
 abbrev pub ticked : State → ℕ → State

@@ -5,14 +5,16 @@ use Rattle.mr_model.specs.declared.entry.Entry.{Entry}
 use Rattle.mr_model.specs.declared.entry.Entry.TheVariants.{Call}
 use Rattle.mr_model.specs.declared.reply.Reply.TheVariants.{Good}
 use Rattle.mr_model.specs.declared.request.Request.TheVariants.{Pim, Assert}
-use Rattle.mr_model.specs.State.{truth, is_same}
+use Rattle.mr_model.specs.Granting.{truth}
+use Rattle.mr_model.specs.Tables.{is_same}
 
 pub record Switches : Type 0 where
   pub pim : Bool
   pub asserts : Bool
 
 abbrev pub switches_after : Switches → Entry → Switches
-switches_after s (Call d (Pim n) Good released) = if is_same (truth n) s.pim then s else record { pim = truth n; asserts = truth n }
+switches_after s (Call d (Pim n) Good released) =
+    record { pim = truth n; asserts = if is_same (truth n) s.pim then s.asserts else truth n }
 switches_after s (Call d (Assert n) Good released) = record s { asserts = truth n }
 switches_after s _ = s
 

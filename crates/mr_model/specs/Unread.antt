@@ -5,7 +5,7 @@ use Rattle.mr_model.specs.declared.entry.Entry.{Entry}
 use Rattle.mr_model.specs.declared.entry.Entry.TheVariants.{Call, Slow, Recv}
 use Rattle.mr_model.specs.declared.limits.Limits.{Limits}
 use Rattle.mr_model.specs.declared.message.MessageId.{MessageId}
-use Rattle.mr_model.specs.declared.outcome.Outcome.TheVariants.{Parked}
+use Rattle.mr_model.specs.declared.outcome.Outcome.TheVariants.{Forward, Register, Wrong, Parked, Dropped}
 use Rattle.mr_model.specs.declared.reply.Reply.TheVariants.{Good}
 use Rattle.mr_model.specs.declared.request.Request.TheVariants.{Finish}
 use Rattle.mr_model.specs.State.{State, state, granted, told_by_parked}
@@ -14,8 +14,15 @@ use Rattle.mr_model.specs.Messages.{told_by}
 -- the reports that entry e pushes in a state
 abbrev pub pushed_by : Limits → State → Entry → List MessageId
 pushed_by limits s (Slow lane index look flow Parked) = told_by_parked s lane index flow
-pushed_by limits s (Slow lane index look flow o) = told_by s.vifs lane index o
-pushed_by limits s (Call d r Good released) = flat_map (λ x. told_by (granted limits s d r).vifs x.lane x.index x.outcome) released
+pushed_by limits s (Slow lane index look flow (Forward entry input outs)) =
+    told_by s.tables.vifs lane index (Forward entry input outs)
+pushed_by limits s (Slow lane index look flow (Register entry input outs told)) =
+    told_by s.tables.vifs lane index (Register entry input outs told)
+pushed_by limits s (Slow lane index look flow (Wrong entry vif report)) =
+    told_by s.tables.vifs lane index (Wrong entry vif report)
+pushed_by limits s (Slow lane index look flow (Dropped cause)) =
+    told_by s.tables.vifs lane index (Dropped cause)
+pushed_by limits s (Call d r Good released) = flat_map (λ x. told_by (granted limits s d r).tables.vifs x.lane x.index x.outcome) released
 pushed_by limits s _ = []
 
 -- the reports that the entries h push behind the history g

@@ -85,11 +85,14 @@ verdict_in vifs routes dev src dst ttl = judge_or_miss vifs routes (found_in vif
 -- a verdict that is decided without the lock
 abbrev pub is_plain : Verdict → Bool
 is_plain (Forward entry input outs) = true
-is_plain _ = false
+is_plain (Register entry input outs) = false
+is_plain (Wrong entry vif) = false
+is_plain (Miss vif) = false
+is_plain NoVif = false
 
 -- the same after a history
 abbrev pub judge : Limits → List Entry → Route → ℕ → ℕ → Verdict
-judge limits h r dev ttl = judge_in (state limits h).vifs (state limits h).routes r dev ttl
+judge limits h r dev ttl = judge_in (state limits h).tables.vifs (state limits h).tables.routes r dev ttl
 
 abbrev pub verdict : Limits → List Entry → ℕ → Addr → Addr → ℕ → Verdict
-verdict limits h dev src dst ttl = verdict_in (state limits h).vifs (state limits h).routes dev src dst ttl
+verdict limits h dev src dst ttl = verdict_in (state limits h).tables.vifs (state limits h).tables.routes dev src dst ttl

@@ -55,11 +55,15 @@ add_vif_error devices vifs c =
     (refuse ((c.flags == 0 || c.flags == 8) && is_none (device_meant devices c)) NotAvailable
     (refuse (not (c.flags == 0 || c.flags == 4 || c.flags == 8)) Invalid None))))
 
--- the vif that MRT_ADD_VIF makes; flags 4 (VIFF_REGISTER) make the register vif, whose device is 0
+-- the device of the vif that MRT_ADD_VIF makes; flags 4 (VIFF_REGISTER) make the register vif, whose device is 0
+abbrev pub vif_device : List Device → VifCtl → ℕ
+vif_device devices c = if c.flags == 4 then 0 else unwrap_or (device_meant devices c) 0
+
+-- the vif that it makes
 abbrev pub new_vif : List Device → VifCtl → Bool → ℕ → VifRecord
 new_vif devices c fixed number = record {
   vif = c.vif;
-  dev = if c.flags == 4 then 0 else unwrap_or (device_meant devices c) 0;
+  dev = vif_device devices c;
   register = c.flags == 4;
   fixed = fixed;
   number = number;
@@ -76,6 +80,10 @@ without_vif vifs i = filter (λ v. not (v.vif == i)) vifs
 abbrev pub has_flag : ℕ → ℕ → Bool
 has_flag n bits = not (bit_and n bits == 0)
 
+-- the vifs without the static ones, where `fixed`, and without the others, where `loose`
+abbrev pub vifs_left : Bool → Bool → List VifRecord → List VifRecord
+vifs_left loose fixed vifs = filter (λ v. not (if v.fixed then fixed else loose)) vifs
+
 -- MRT_FLUSH: flag 4 (MRT_FLUSH_VIFS) removes the vifs that are not static, 8 (MRT_FLUSH_VIFS_STATIC) those that are.
 abbrev pub vifs_kept : ℕ → List VifRecord → List VifRecord
-vifs_kept bits vifs = filter (λ v. not (has_flag bits (if v.fixed then 8 else 4))) vifs
+vifs_kept bits vifs = vifs_left (has_flag bits 4) (has_flag bits 8) vifs

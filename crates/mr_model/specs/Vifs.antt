@@ -6,4 +6,4 @@ use Rattle.mr_model.specs.declared.limits.Limits.{Limits}
 use Rattle.mr_model.specs.State.{state}
 
 abbrev pub vifs : Limits → List Entry → List VifRecord
-vifs limits h = (state limits h).vifs
+vifs limits h = (state limits h).tables.vifs

@@ -11,7 +11,6 @@ ghost use Rattle.mr_model.specs.declared.limits.Limits.{Limits};
 ghost use Rattle.mr_model.specs.declared.outcome.Outcome.{Outcome};
 ghost use Rattle.mr_model.specs.declared.step.Step.TheVariants.{Kept};
 ghost use Rattle.mr_model.specs.Attempt.{attempted_by, attempts_from, attempt};
-ghost use Rattle.mr_model.specs.Changes.{change_in, changes};
 ghost use Rattle.mr_model.specs.Counts.{met_in, met, route_sums, route_counts, vif_sums, vif_counts};
 ghost use Rattle.mr_model.specs.Fate.{fate_in, fate};
 ghost use Rattle.mr_model.specs.Laws.{fate_after, is_settle, is_of_no_lane, short_after, is_left_short};
@@ -43,11 +42,6 @@ pub fn legal_push()
 pub fn legal_within()
     ensures agrees { (limits : Limits) (g : List Entry) (e : Entry) (h : List Entry) → IsLegal limits (g ++ e ∷ h) → Agrees limits g e }
     ensures front { (limits : Limits) (g h : List Entry) → IsLegal limits (g ++ h) → IsLegal limits g }
-{}
-
-/// A call that changed the tables stands last among the changes, under the number of its entry.
-pub fn changes_push()
-    ensures { (h : List Entry) (e : Entry) → changes (h ++ e ∷ []) ≡ changes h ++ change_in (length h + 1) e }
 {}
 
 /// One more entry changes the owner as a good MRT_INIT or MRT_DONE does, or not.
@@ -137,8 +131,8 @@ pub fn lively_lane_push()
 /// The owner, the switches, the moment and the attempts of the state are those of the history.
 pub fn state_agrees()
     ensures owner { (limits : Limits) (h : List Entry) → (state limits h).owner ≡ owner h }
-    ensures pim { (limits : Limits) (h : List Entry) → (state limits h).pim ≡ pim h }
-    ensures asserts { (limits : Limits) (h : List Entry) → (state limits h).asserts ≡ asserts h }
+    ensures pim { (limits : Limits) (h : List Entry) → (state limits h).tables.pim ≡ pim h }
+    ensures asserts { (limits : Limits) (h : List Entry) → (state limits h).tables.asserts ≡ asserts h }
     ensures now { (limits : Limits) (h : List Entry) → (state limits h).now ≡ now h }
     ensures attempts { (limits : Limits) (h : List Entry) → (state limits h).attempts ≡ reverse (attempts_from 0 h) }
     ensures attempt { (limits : Limits) (h : List Entry) (n : ℕ) → last_attempt (state limits h).attempts n ≡ attempt h n }

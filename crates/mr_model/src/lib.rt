@@ -3,6 +3,8 @@
 #![tactic(auto)]
 
 mod caller;
+mod change;
+mod change_laws;
 mod ending;
 mod entry;
 mod flow;
@@ -17,13 +19,15 @@ mod step;
 mod verdict;
 
 pub use caller::{CallError, Caller};
+pub use change::{Change, What};
+pub use change_laws::{changes_make_tables, changes_push, numbers_rise};
 pub use ending::{Ending, Fate, FateLine};
 pub use entry::{Entry, FastRecord, ReleasedId};
 pub use flow::Flow;
 pub use laws::{
-    attempts_push, changes_push, fate_push, legal_push, legal_within, lively_lane_push,
-    lively_push, met_push, now_push, owner_push, past_push, pushed_push, route_counts_push,
-    state_agrees, state_push, switches_push, unfolded_push, unread_agrees, vif_counts_push,
+    attempts_push, fate_push, legal_push, legal_within, lively_lane_push, lively_push, met_push,
+    now_push, owner_push, past_push, pushed_push, route_counts_push, state_agrees, state_push,
+    switches_push, unfolded_push, unread_agrees, vif_counts_push,
 };
 pub use limits::Limits;
 pub use message::{Kind, MessageId, Told};

@@ -1,5 +1,0 @@
-use Rattle.mr_model.proofs.PushingLists as lemma
-use Rattle.mr_model.proofs.laws.changes_push.Goals as goal
-
-pub returns : goal.returns
-returns c = lemma.changes_push
