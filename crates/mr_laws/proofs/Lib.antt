@@ -1,0 +1,10 @@
+pub mod Counting
+pub mod Moving
+pub mod WaitingSteps
+pub mod Keys
+pub mod OneFate
+pub mod Serving
+pub mod Shaping
+pub mod UnreadRoom
+pub mod Once
+pub mod FateLines

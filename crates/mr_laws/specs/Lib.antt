@@ -1,0 +1,4 @@
+pub mod Shape
+pub mod Served
+pub mod Once
+pub mod Rows
