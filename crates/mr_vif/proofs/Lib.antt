@@ -1,0 +1,3 @@
+pub mod KeepLemmas
+pub mod VifLemmas
+pub mod MaskLemmas

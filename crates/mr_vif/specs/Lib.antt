@@ -1,0 +1,4 @@
+pub mod Masks
+pub mod Rules
+pub mod Keeping
+pub mod WorkedVifs
