@@ -1,0 +1,5 @@
+pub mod Found
+pub mod Fitted
+pub mod History
+pub mod Sending
+pub mod Turns

@@ -1,0 +1,4 @@
+pub mod Values
+pub mod Fitting
+pub mod Laws
+pub mod WorkedTables
