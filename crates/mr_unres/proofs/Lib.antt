@@ -1,0 +1,5 @@
+pub mod Places
+pub mod Listed
+pub mod Ordered
+pub mod Kept
+pub mod Moments

@@ -1,0 +1,5 @@
+use Rattle.mr_unres.specs.Entries.{NoneAfter, awaiting}
+use Rattle.mr_unres.proofs.tests.ten_entries_and_no_eleventh.Given as goal
+
+abbrev pub invariant-loop-index : goal.invariant-loop-index
+invariant-loop-index g l = NoneAfter 0 (awaiting l.waiting.entries)
