@@ -1,0 +1,2 @@
+pub mod AcceptedHeads
+pub mod RingSteps

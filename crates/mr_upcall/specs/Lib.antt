@@ -1,0 +1,3 @@
+pub mod Reports
+pub mod Rings
+pub mod WorkedReports
