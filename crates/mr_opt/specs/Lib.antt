@@ -1,0 +1,4 @@
+pub mod Fields
+pub mod Options
+pub mod Records
+pub mod WorkedRecords
