@@ -1,0 +1,9 @@
+pub mod Prefixes
+pub mod Owns
+pub mod Views
+pub mod Blank
+pub mod Looking
+pub mod Counting
+pub mod Splitting
+pub mod Joining
+pub mod WorkedTables

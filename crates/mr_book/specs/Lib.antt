@@ -1,0 +1,6 @@
+pub mod Rule
+pub mod Views
+pub mod Steps
+pub mod Opening
+pub mod Pairs
+pub mod WorkedTable
