@@ -7,7 +7,7 @@ use Rattle.mr_scenario.specs.declared.scenario.Phase.{Phase}
 use Rattle.mr_scenario.specs.declared.scenario.Scenario.{Scenario}
 use Rattle.mr_scenario.specs.declared.scenario.ScriptLine.{ScriptLine}
 use Rattle.mr_scenario.specs.Fits.{Fits, packets_in, packets_of}
-use Rattle.mr_replay.specs.Loading.{from_on, one_to}
+use Rattle.mr_load.specs.Callers.{from_on, one_to}
 use Rattle.mr_replay.specs.Machines.{costs, daemons_cost, lane_cost, lanes_cost, packets_among}
 use Rattle.mr_replay.specs.Outcomes.{controls_due}
 use Rattle.mr_replay.specs.Played.{lines_of}

@@ -53,12 +53,12 @@ index_map f vs (i ∷ is) =
 pub routes_end : (limits : Limits) (h : List Entry) (o : Option DaemonNo) (vs : List VifRecord) (vt : List VifTotals) (rs : List Route) (rt : List RouteTotals) → Keeps limits h o vs vt rs rt → reverse (route_pairs rs rt) ≡ (ending limits h).routes
 routes_end limits h o vs vt rs rt k =
     ap (λ t. reverse (route_pairs rs t)) k.holds.of_routes ∙ ap reverse (pairs_map (λ r. route_counts h r.number) rs) ∙ reverse_map (λ r. (r, route_counts h r.number)) rs
-    ∙ ap (λ (s : State). map (λ r. (r, route_counts h r.number)) (reverse s.routes)) (sym k.state_is)
+    ∙ ap (λ (s : State). map (λ r. (r, route_counts h r.number)) (reverse s.tables.routes)) (sym k.state_is)
 
 pub vifs_end : (limits : Limits) (h : List Entry) (o : Option DaemonNo) (vs : List VifRecord) (vt : List VifTotals) (rs : List Route) (rt : List RouteTotals) → Keeps limits h o vs vt rs rt → flat_map (λ i. option_to_list (pair_with (vif_pairs vs vt) i)) indexes ≡ (ending limits h).vifs
 vifs_end limits h o vs vt rs rt k =
     ap (λ l. flat_map (λ i. option_to_list (pair_with l i)) indexes) (ap (vif_pairs vs) k.holds.of_vifs ∙ vifs_map (vif_counts h) vs) ∙ index_map (vif_counts h) vs indexes
-    ∙ ap (λ (s : State). map (paired (vif_counts h)) (flat_map (λ i. option_to_list (vif_at s.vifs i)) indexes)) (sym k.state_is)
+    ∙ ap (λ (s : State). map (paired (vif_counts h)) (flat_map (λ i. option_to_list (vif_at s.tables.vifs i)) indexes)) (sym k.state_is)
 
 pub each_route : (limits : Limits) (h : List Entry) (o : Option DaemonNo) (vs : List VifRecord) (vt : List VifTotals) (rs : List Route) (rt : List RouteTotals) → Keeps limits h o vs vt rs rt → length rt ≡ length rs
 each_route limits h o vs vt rs rt k = ap length k.holds.of_routes ∙ length-map rs (λ r. route_counts h r.number)

@@ -1,5 +1,5 @@
 -- What one more entry does to what a machine keeps.
-use Rattle.std.proofs.Common.{◌≡◌, ◌<◌, ℕ, zero, suc, ◌+◌, Bool, true, false, Option, Some, None, Result, Ok, Err, List, [], ◌∷◌, ◌++◌, length, refl, sym, ap, ◌∙◌, arith, append-nil, length-append}
+use Rattle.std.proofs.Common.{◌≡◌, ◌<◌, ℕ, zero, suc, ◌+◌, Bool, true, false, Option, Some, None, Result, Ok, Err, List, [], ◌∷◌, ◌++◌, length, refl, sym, ap, subst, find, ◌∙◌, arith, append-nil, length-append}
 use Rattle.std.specs.Prelude.{is_some, IfNone, not, ◌==◌, ◌||◌, if◌then◌else◌}
 use Rattle.std.specs.List.{list_any}
 use Rattle.mr_base.specs.declared.errno.Errno.{Errno}
@@ -17,9 +17,14 @@ use Rattle.mr_model.specs.declared.request.VifCtl.{VifCtl}
 use Rattle.mr_model.specs.declared.request.Request.TheVariants.{Init, AddVif, AddMfc}
 use Rattle.mr_model.specs.Answer.{is_admin, release}
 use Rattle.mr_model.specs.Counts.{Met, met_in, met}
-use Rattle.mr_model.specs.RouteList.{is_named, new_route, changed_route, change_first, add_route_error}
-use Rattle.mr_model.specs.State.{State, step, is_owner, with_route}
+use Rattle.mr_model.specs.RouteList.{is_named, new_route, changed_route, changed_to, change_first, thresholds_from, add_route_error}
+use Rattle.mr_model.specs.Granting.{numbered, route_change}
+use Rattle.mr_model.specs.Numbers.{NumbersFall}
+use Rattle.mr_model.specs.Tables.{changed_by}
+use Rattle.mr_model.specs.State.{State, step, is_owner, granted}
 use Rattle.mr_model.specs.VifList.{new_vif, add_vif_error}
+use Rattle.mr_model.proofs.Changing.{routes_fall}
+use Rattle.mr_model.proofs.Numbering.{change_by_number}
 use Rattle.mr_model.proofs.Pushing.{state_push}
 use Rattle.mr_model.proofs.PushingLists.{met_push}
 use Rattle.mr_replay.specs.Built.{IsBuilt}
@@ -68,23 +73,48 @@ vif_keeps limits h d c fixed o vs vt rs rt k small owner =
     (ap (λ b. tables (length h + 1) o (vs ++ new_vif limits.devices c b (length h + 1) ∷ []) rs) (owner (tables (length h) o vs rs) refl))
     refl (holds_vif (length h) (met h) vs vt rs rt (new_vif limits.devices c fixed (length h + 1)) k.holds small refl)
 
--- MRT_ADD_MFC on tables where nothing waits
-sets : (n : ℕ) (d : DaemonNo) (c : MfcCtl) (fixed : Bool) (o : Option DaemonNo) (vs : List VifRecord) (rs : List Route) → not (is_owner (tables n o vs rs) d) ≡ fixed
-    → with_route (tables n o vs rs) d c None ≡ tables n o vs (routes_set vs c fixed (n + 1) rs)
-sets n d c fixed o vs rs owner = rw owner (by_test (list_any (is_named c.src c.dst None) rs))
-  where
-    by_test : (b : Bool) → ◌≡◌ {A = State}
-        (if b then tables n o vs (change_first (is_named c.src c.dst None) (changed_route vs c fixed) rs) else tables n o vs (new_route vs c fixed (n + 1) ∷ rs))
-        (tables n o vs (if b then change_first (is_named c.src c.dst None) (changed_route vs c fixed) rs else new_route vs c fixed (n + 1) ∷ rs))
-    by_test true = refl
-    by_test false = refl
+-- MRT_ADD_MFC where nothing waits: what is found of its name, and whether it is there
+abbrev after_set : ℕ → Option DaemonNo → List VifRecord → List Route → MfcCtl → Bool → Option Route → Bool → State
+after_set n o vs rs c fixed f there = record (tables n o vs rs) {
+  tables = changed_by (record { vifs = vs; routes = rs; pim = false; asserts = false }) (numbered (n + 1) (route_change vs fixed c f));
+  waiting = if there then [] else [];
+}
+
+found_any : (test : Route → Bool) (rs : List Route) → is_some (find test rs) ≡ list_any test rs
+found_any test [] = refl
+found_any test (r ∷ rs) =
+    let more = found_any test rs in
+    elim (test r) as (λ b. is_some (if b then Some r else find test rs) ≡ (b || list_any test rs)) [
+      | true ↦ refl
+      | false ↦ more
+    ]
+
+-- by its number or by its name, the same entry changes
+set_changes : (n : ℕ) (o : Option DaemonNo) (vs : List VifRecord) (rs : List Route) (c : MfcCtl) (fixed : Bool) (f : Option Route) → NumbersFall (n + 1) rs → find (is_named c.src c.dst None) rs ≡ f
+    → after_set n o vs rs c fixed f (is_some f) ≡ tables n o vs (if is_some f then change_first (is_named c.src c.dst None) (changed_route vs c fixed) rs else new_route vs c fixed (n + 1) ∷ rs)
+set_changes n o vs rs c fixed None fall found = refl
+set_changes n o vs rs c fixed (Some r) fall found =
+    ap (λ (qs : List Route). tables n o vs qs)
+    (sym (change_by_number (is_named c.src c.dst None) (changed_route vs c fixed) (changed_to c.parent (thresholds_from vs 0 c.ttls) (r.fixed || fixed)) (n + 1) rs r fall found refl))
+
+sets : (limits : Limits) (n : ℕ) (d : DaemonNo) (c : MfcCtl) (fixed : Bool) (o : Option DaemonNo) (vs : List VifRecord) (rs : List Route) → NumbersFall (n + 1) rs → not (is_owner (tables n o vs rs) d) ≡ fixed
+    → granted limits (tables n o vs rs) d (AddMfc c) ≡ tables n o vs (routes_set vs c fixed (n + 1) rs)
+sets limits n d c fixed o vs rs fall owner =
+    let f = find (is_named c.src c.dst None) rs in
+    let there : is_some f ≡ list_any (is_named c.src c.dst None) rs = found_any (is_named c.src c.dst None) rs in
+    ap (λ (b : Bool). after_set n o vs rs c b f (list_any (is_named c.src c.dst None) rs)) owner
+    ∙ ap (λ (b : Bool). after_set n o vs rs c fixed f b) (sym there)
+    ∙ set_changes n o vs rs c fixed f fall refl
+    ∙ ap (λ (b : Bool). tables n o vs (if b then change_first (is_named c.src c.dst None) (changed_route vs c fixed) rs else new_route vs c fixed (n + 1) ∷ rs)) there
 
 pub route_keeps : (limits : Limits) (h : List Entry) (d : DaemonNo) (c : MfcCtl) (fixed : Bool) (o : Option DaemonNo) (vs : List VifRecord) (vt : List VifTotals) (rs : List Route) (rt : List RouteTotals)
     → Keeps limits h o vs vt rs rt → ((s : State) → s.owner ≡ o → not (is_owner s d) ≡ fixed)
     → Keeps limits (h ++ Call d (AddMfc c) Good [] ∷ []) o vs vt (routes_set vs c fixed (length h + 1) rs) (totals_set c rs rt)
 route_keeps limits h d c fixed o vs vt rs rt k owner =
+    let fall : NumbersFall (length h + 1) rs =
+    subst (λ (s : State). NumbersFall (length h + 1) s.tables.routes) k.state_is (routes_fall limits h) in
     quiet limits h (Call d (AddMfc c) Good []) o o vs vs vt vt rs _ rt _ k tt
-    (ap (λ (s : State). record s { count = s.count + 1 }) (sets (length h) d c fixed o vs rs (owner (tables (length h) o vs rs) refl)))
+    (ap (λ (s : State). record s { count = s.count + 1 }) (sets limits (length h) d c fixed o vs rs fall (owner (tables (length h) o vs rs) refl)))
     refl (holds_set (length h) (met h) vs vt rs rt c fixed k.holds)
 
 -- MRT_INIT as a run plays it: good where nobody is the owner, else not built

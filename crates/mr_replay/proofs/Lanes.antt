@@ -18,13 +18,12 @@ use Rattle.mr_scenario.specs.Fits.{packets_in, packets_of}
 use Rattle.mr_scenario.proofs.Each.{all_weaker}
 use Rattle.mr_words.specs.Binds.{◌>>=◌}
 use Rattle.mr_words.proofs.Binds.{bind_ok}
-use Rattle.mr_replay.specs.Loading.{from_on, one_to, run_limits}
+use Rattle.mr_load.specs.Callers.{from_on, one_to}
 use Rattle.mr_replay.specs.declared.halt.Halt.{Halt}
 use Rattle.mr_replay.specs.declared.halt.Halt.TheVariants as halt
 use Rattle.mr_replay.specs.declared.machine.Machine.{Machine}
 use Rattle.mr_replay.specs.Machines.{Comes, RunsOn, lane_cost, lanes_cost, numbers_behind, packets_among, run_lanes, run_phase, run_phases}
-use Rattle.mr_replay.specs.Made.{items_of}
-use Rattle.mr_replay.specs.Played.{play_daemons, play_given, play_item, play_items, play_lanes, play_phase, play_phases, played}
+use Rattle.mr_replay.specs.Played.{items_among, play_daemons, play_given, play_item, play_items, play_lanes, play_phase, play_phases, played_under}
 use Rattle.mr_replay.proofs.Costing.{packets_more, lane_within}
 
 pub bind_same : {A B E : Type 0} (r : Result A E) (f g : A → Result B E) → ((x : A) → f x ≡ g x) → (r >>= f) ≡ (r >>= g)
@@ -43,20 +42,20 @@ abbrev is_of : ℕ → Item → ℕ
 is_of lane i = if i.lane.0 == lane then 1 else 0
 
 -- the items of a lane that ran are all packets' bytes
-items_given : (limits : Limits) (h : List Entry) (lane n : ℕ) (is : List Item) (g : List Entry) → play_items limits h lane n is ≡ Ok g → items_of lane is ≡ lane_cost lane is
+items_given : (limits : Limits) (h : List Entry) (lane n : ℕ) (is : List Item) (g : List Entry) → play_items limits h lane n is ≡ Ok g → items_among lane is ≡ lane_cost lane is
 items_given limits h lane n [] g e = refl
 items_given limits h lane n (i ∷ is) g e = sum_by-cons (is_of lane) i is ∙ by_test (i.lane.0 == lane) (λ m k. items_given limits m lane k is g) e
   where
-    by_test : (b : Bool) → ((m : List Entry) (k : ℕ) → play_items limits m lane k is ≡ Ok g → items_of lane is ≡ lane_cost lane is)
+    by_test : (b : Bool) → ((m : List Entry) (k : ℕ) → play_items limits m lane k is ≡ Ok g → items_among lane is ≡ lane_cost lane is)
         → (if b then (play_item limits h n i >>= λ m. play_items limits m lane (n + 1) is) else play_items limits h lane n is) ≡ Ok g
-        → ◌≡◌ {A = ℕ} ((if b then 1 else 0) + items_of lane is) (if b then packets_in i.given + lane_cost lane is else lane_cost lane is)
+        → ◌≡◌ {A = ℕ} ((if b then 1 else 0) + items_among lane is) (if b then packets_in i.given + lane_cost lane is else lane_cost lane is)
     by_test true more e =
         let b = bind_ok (play_item limits h n i) (λ m. play_items limits m lane (n + 1) is) g e in
         let one : packets_in i.given ≡ 1 = given_bytes limits h i.line i.lane n i.dev i.given b.0 b.1 in
-        let rest : items_of lane is ≡ lane_cost lane is = more b.0 (n + 1) b.2 in
+        let rest : items_among lane is ≡ lane_cost lane is = more b.0 (n + 1) b.2 in
         omega (arith, one, rest)
     by_test false more e =
-        let rest : items_of lane is ≡ lane_cost lane is = more h n e in
+        let rest : items_among lane is ≡ lane_cost lane is = more h n e in
         omega (arith, rest)
 
 -- the numbers stay low behind lanes that ran
@@ -65,7 +64,7 @@ lanes_few : (limits : Limits) (h : List Entry) (lane : ℕ) (ns : List ℕ) (is 
 lanes_few limits h lane [] is g more most e a = tt
 lanes_few limits h lane (n ∷ ns) is g more most e a =
     let b = bind_ok (play_items limits h lane n is) (λ m. run_lanes limits m (lane + 1) ns is) g e in
-    let given : items_of lane is ≡ lane_cost lane is = items_given limits h lane n is b.0 b.1 in
+    let given : items_among lane is ≡ lane_cost lane is = items_given limits h lane n is b.0 b.1 in
     let within : lane_cost lane is ≤ packets_among is = lane_within lane is in
     (omega (arith, given, within, a.0), lanes_few limits b.0 (lane + 1) ns is g more most b.2 a.1)
 
@@ -110,36 +109,36 @@ phases_run limits m after ds ns new ps i p all next played made runs =
 
 -- the next numbers of the lanes behind items
 abbrev pub numbers_of : List Item → List ℕ → List ℕ
-numbers_of before ls = map (λ l. items_of l before + 1) ls
+numbers_of before ls = map (λ l. items_among l before + 1) ls
 
 lanes_are : (limits : Limits) (h : List Entry) (before is : List Item) (lane k : ℕ) → run_lanes limits h lane (numbers_of before (from_on lane k)) is ≡ play_lanes limits h before is (from_on lane k)
 lanes_are limits h before is lane zero = refl
 lanes_are limits h before is lane (suc k) =
-    bind_same (play_items limits h lane (items_of lane before + 1) is) (λ g. run_lanes limits g (lane + 1) (numbers_of before (from_on (lane + 1) k)) is) (λ g. play_lanes limits g before is (from_on (lane + 1) k))
+    bind_same (play_items limits h lane (items_among lane before + 1) is) (λ g. run_lanes limits g (lane + 1) (numbers_of before (from_on (lane + 1) k)) is) (λ g. play_lanes limits g before is (from_on (lane + 1) k))
     (λ g. lanes_are limits g before is (lane + 1) k)
 
 behind_are : (before is : List Item) (lane k : ℕ) → numbers_behind lane (numbers_of before (from_on lane k)) is ≡ numbers_of (before ++ is) (from_on lane k)
 behind_are before is lane zero = refl
 behind_are before is lane (suc k) =
-    let all : items_of lane (before ++ is) ≡ items_of lane before + items_of lane is = sum_by-append (is_of lane) before is in
-    let first : items_of lane before + 1 + items_of lane is ≡ items_of lane (before ++ is) + 1 = omega (arith, all) in
+    let all : items_among lane (before ++ is) ≡ items_among lane before + items_among lane is = sum_by-append (is_of lane) before is in
+    let first : items_among lane before + 1 + items_among lane is ≡ items_among lane (before ++ is) + 1 = omega (arith, all) in
     ap (λ (n : ℕ). n ∷ numbers_behind (lane + 1) (numbers_of before (from_on (lane + 1) k)) is) first
-    ∙ ap (λ (ns : List ℕ). (items_of lane (before ++ is) + 1) ∷ ns) (behind_are before is (lane + 1) k)
+    ∙ ap (λ (ns : List ℕ). (items_among lane (before ++ is) + 1) ∷ ns) (behind_are before is (lane + 1) k)
 
-phase_is : (s : Scenario) (h : List Entry) (before : List Item) (p : Phase) → run_phase (run_limits s) h (one_to (length s.daemons)) (numbers_of before (one_to s.lanes)) p ≡ play_phase s h before p
-phase_is s h before p =
-    bind_same (play_daemons (run_limits s) h p.script (one_to (length s.daemons)))
-    (λ g. run_lanes (run_limits s) g 1 (numbers_of before (one_to s.lanes)) p.items >>= λ k. Ok (k ++ EndPhase ∷ []))
-    (λ g. play_lanes (run_limits s) g before p.items (one_to s.lanes) >>= λ k. Ok (k ++ EndPhase ∷ []))
-    (λ g. ap (λ (r : Result (List Entry) ℕ). r >>= λ k. Ok (k ++ EndPhase ∷ [])) (lanes_are (run_limits s) g before p.items 1 s.lanes))
+phase_is : (limits : Limits) (s : Scenario) (h : List Entry) (before : List Item) (p : Phase) → run_phase limits h (one_to (length s.daemons)) (numbers_of before (one_to s.lanes)) p ≡ play_phase limits s h before p
+phase_is limits s h before p =
+    bind_same (play_daemons limits h p.script (one_to (length s.daemons)))
+    (λ g. run_lanes limits g 1 (numbers_of before (one_to s.lanes)) p.items >>= λ k. Ok (k ++ EndPhase ∷ []))
+    (λ g. play_lanes limits g before p.items (one_to s.lanes) >>= λ k. Ok (k ++ EndPhase ∷ []))
+    (λ g. ap (λ (r : Result (List Entry) ℕ). r >>= λ k. Ok (k ++ EndPhase ∷ [])) (lanes_are limits g before p.items 1 s.lanes))
 
 -- phases from next numbers on are phases behind items
-pub phases_are : (s : Scenario) (h : List Entry) (before : List Item) (ps : List Phase) → run_phases (run_limits s) h (one_to (length s.daemons)) (numbers_of before (one_to s.lanes)) ps ≡ play_phases s h before ps
-phases_are s h before [] = refl
-phases_are s h before (p ∷ ps) =
-    ap (λ (r : Result (List Entry) ℕ). r >>= λ g. run_phases (run_limits s) g (one_to (length s.daemons)) (numbers_behind 1 (numbers_of before (one_to s.lanes)) p.items) ps) (phase_is s h before p)
-    ∙ bind_same (play_phase s h before p) (λ g. run_phases (run_limits s) g (one_to (length s.daemons)) (numbers_behind 1 (numbers_of before (one_to s.lanes)) p.items) ps) (λ g. play_phases s g (before ++ p.items) ps)
-    (λ g. ap (λ (ns : List ℕ). run_phases (run_limits s) g (one_to (length s.daemons)) ns ps) (behind_are before p.items 1 s.lanes) ∙ phases_are s g (before ++ p.items) ps)
+pub phases_are : (limits : Limits) (s : Scenario) (h : List Entry) (before : List Item) (ps : List Phase) → run_phases limits h (one_to (length s.daemons)) (numbers_of before (one_to s.lanes)) ps ≡ play_phases limits s h before ps
+phases_are limits s h before [] = refl
+phases_are limits s h before (p ∷ ps) =
+    ap (λ (r : Result (List Entry) ℕ). r >>= λ g. run_phases limits g (one_to (length s.daemons)) (numbers_behind 1 (numbers_of before (one_to s.lanes)) p.items) ps) (phase_is limits s h before p)
+    ∙ bind_same (play_phase limits s h before p) (λ g. run_phases limits g (one_to (length s.daemons)) (numbers_behind 1 (numbers_of before (one_to s.lanes)) p.items) ps) (λ g. play_phases limits s g (before ++ p.items) ps)
+    (λ g. ap (λ (ns : List ℕ). run_phases limits g (one_to (length s.daemons)) ns ps) (behind_are before p.items 1 s.lanes) ∙ phases_are limits s g (before ++ p.items) ps)
 
 -- the lane at i and what is left behind it
 cut : (ns : List ℕ) (i : ℕ) → i < length ns → drop i ns ≡ get_or ns i 0 ∷ drop (i + 1) ns
@@ -150,7 +149,7 @@ cut ns i within =
 left : (ns : List ℕ) (i x : ℕ) → drop (i + 1) (slice_set ns i x) ≡ drop (i + 1) ns
 left ns i x = drop-set-lt (i + 1) ns i x (omega arith)
 
-pub lane_made : (ns : List ℕ) (i lane x : ℕ) (is : List Item) (out : List ℕ) → i < length ns → take i ns ++ numbers_behind lane (drop i ns) is ≡ out → x ≡ get_or ns i 0 + items_of lane is
+pub lane_made : (ns : List ℕ) (i lane x : ℕ) (is : List Item) (out : List ℕ) → i < length ns → take i ns ++ numbers_behind lane (drop i ns) is ≡ out → x ≡ get_or ns i 0 + items_among lane is
     → take (i + 1) (slice_set ns i x) ++ numbers_behind (lane + 1) (drop (i + 1) (slice_set ns i x)) is ≡ out
 lane_made ns i lane x is out within made next =
     rw (take_more_set ns i x within, left ns i x)
@@ -185,8 +184,8 @@ first_numbers : (lane k : ℕ) → numbers_of [] (from_on lane k) ≡ replicate 
 first_numbers lane zero = refl
 first_numbers lane (suc k) = ap (λ (ns : List ℕ). 1 ∷ ns) (first_numbers (lane + 1) k)
 
-pub played_is : (s : Scenario) → run_phases (run_limits s) [] (one_to (length s.daemons)) (replicate s.lanes 1) s.phases ≡ played s
-played_is s = ap (λ (ns : List ℕ). run_phases (run_limits s) [] (one_to (length s.daemons)) ns s.phases) (sym (first_numbers 1 s.lanes)) ∙ phases_are s [] [] s.phases
+pub played_is : (limits : Limits) (s : Scenario) → run_phases limits [] (one_to (length s.daemons)) (replicate s.lanes 1) s.phases ≡ played_under limits s
+played_is limits s = ap (λ (ns : List ℕ). run_phases limits [] (one_to (length s.daemons)) ns s.phases) (sym (first_numbers 1 s.lanes)) ∙ phases_are limits s [] [] s.phases
 
 pub first_few : (k more : ℕ) → 1 + more ≤ 4194304 → AllByRecursion (λ n. n + more ≤ 4194304) (replicate k 1)
 first_few zero more le = tt

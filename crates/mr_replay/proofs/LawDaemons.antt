@@ -11,8 +11,8 @@ use Rattle.mr_model.specs.Legal.{IsDaemon, IsLegal}
 use Rattle.mr_model.specs.Past.{controls, phases, is_end}
 use Rattle.mr_scenario.specs.declared.scenario.Script.{Script}
 use Rattle.mr_scenario.specs.declared.scenario.ScriptLine.{ScriptLine}
-use Rattle.mr_replay.specs.Loading.{from_on}
-use Rattle.mr_replay.specs.Made.{sent_in, sent, asked_in, asked, of_daemon}
+use Rattle.mr_load.specs.Callers.{from_on}
+use Rattle.mr_load.specs.Made.{sent_in, sent, asked_in, asked, of_daemon}
 use Rattle.mr_replay.specs.Played.{play_lines, play_daemons, lines_of}
 use Rattle.mr_words.proofs.Binds.{bind_ok, same_ok}
 use Rattle.mr_replay.proofs.LawSame.{Same, same_then}

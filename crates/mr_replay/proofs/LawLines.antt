@@ -17,7 +17,7 @@ use Rattle.mr_model.proofs.PushingLists.{controls_push, phases_push, packets_pus
 use Rattle.mr_scenario.specs.declared.scenario.Script.{Script}
 use Rattle.mr_scenario.specs.declared.scenario.Script.TheVariants as script
 use Rattle.mr_scenario.specs.declared.scenario.ScriptLine.{ScriptLine}
-use Rattle.mr_replay.specs.Made.{sent, asked, of_daemon}
+use Rattle.mr_load.specs.Made.{sent, asked, of_daemon}
 use Rattle.mr_replay.specs.Played.{is_built, with_call, is_good, play_script, play_line, play_lines}
 use Rattle.mr_words.proofs.Binds.{bind_ok, same_ok, let_through, passed}
 use Rattle.mr_replay.proofs.LawSame.{lane_no, Same, same_then}

@@ -1,14 +1,11 @@
-pub mod Skipped
-pub mod Counting
-pub mod AllBytes
 pub mod LawLooks
 pub mod LawSame
 pub mod LawLines
 pub mod LawDaemons
 pub mod LawItems
-pub mod LawPackets
 pub mod LawLimits
 pub mod LawLanes
+pub mod LawCallers
 pub mod LawPhases
 pub mod LawFates
 pub mod Costing
@@ -19,4 +16,4 @@ pub mod Lanes
 pub mod Packeting
 pub mod TableLemmas
 pub mod Running
-pub mod EveryItem
+pub mod Replaying

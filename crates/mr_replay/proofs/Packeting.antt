@@ -72,8 +72,8 @@ none_plain : (limits : Limits) (s : State) (flow : Flow) (v : Option ℕ) (entry
 none_plain limits s flow None entry j p e = absurd (cc)
 none_plain limits s flow (Some i) entry j p e = absurd (cc)
 
-met_plain : (limits : Limits) (s : State) (flow : Flow) (f : Option Route) (entry : ℕ) (j : Option ℕ) (p : Mask) → judge_or_miss s.vifs s.routes f flow.dev flow.ttl ≡ verdict.Forward entry j p → outcome_met limits s flow f ≡ outcome.Forward entry j p
-met_plain limits s flow None entry j p e = none_plain limits s flow (vif_on s.vifs flow.dev) entry j p e
+met_plain : (limits : Limits) (s : State) (flow : Flow) (f : Option Route) (entry : ℕ) (j : Option ℕ) (p : Mask) → judge_or_miss s.tables.vifs s.tables.routes f flow.dev flow.ttl ≡ verdict.Forward entry j p → outcome_met limits s flow f ≡ outcome.Forward entry j p
+met_plain limits s flow None entry j p e = none_plain limits s flow (vif_on s.tables.vifs flow.dev) entry j p e
 met_plain limits s flow (Some r) entry j p e = ap (decided s r) e
 
 pub packet_goes : (limits : Limits) (h : List Entry) (lane : LaneNo) (index : ℕ) (flow : Flow) (entry : ℕ) (j : Option ℕ) (p : Mask) (o : Option DaemonNo) (vs : List VifRecord) (vt : List VifTotals) (rs : List Route) (rt : List RouteTotals)

@@ -1,20 +1,22 @@
 -- How a run may end, and what each status says.
-use Rattle.std.specs.Prelude.{◌≡◌, ℕ, ◌&&◌, Bool, true, false, not, nat_lt, nat_le, if◌then◌else◌, Option, Some, None, Result, Ok, Err, IsOk, List, [], ◌∷◌, length, bytes_eq, codes, take}
+use Rattle.std.specs.Prelude.{◌≡◌, ℕ, ◌&&◌, Bool, true, false, not, nat_lt, nat_le, if◌then◌else◌, Option, Some, None, Result, Ok, Err, IsOk, Contains, List, [], ◌∷◌, length, bytes_eq, codes, take}
 use Rattle.std.specs.Global.{Vec}
-use Rattle.mr_base.specs.Outside.{Files, HasFile}
+use Rattle.mr_base.specs.Outside.{Files}
 use Rattle.mr_model.specs.declared.entry.Entry.{Entry}
 use Rattle.mr_model.specs.Legal.{IsLegal}
 use Rattle.mr_scenario.specs.declared.scenario.Scenario.{Scenario}
-use Rattle.mr_replay.specs.declared.status.Status.{Status}
-use Rattle.mr_replay.specs.declared.status.Status.TheVariants as status
+use Rattle.mr_load.specs.declared.status.Status.{Status}
+use Rattle.mr_load.specs.declared.status.Status.TheVariants as status
 use Rattle.mr_scenario.specs.declared.stop.Kind.{Kind}
 use Rattle.mr_scenario.specs.Spelled.{spelled}
 use Rattle.mr_replay.specs.Outcomes.{outcome_of}
 use Rattle.mr_replay.specs.Played.{played}
 use Rattle.mr_replay.specs.declared.halt.Halt.{Halt}
 use Rattle.mr_replay.specs.declared.halt.Halt.TheVariants as halt
-use Rattle.mr_replay.specs.Loading.{run_limits}
-use Rattle.mr_replay.specs.Made.{Made}
+use Rattle.mr_load.specs.Loading.{run_limits}
+use Rattle.mr_load.specs.Made.{Made}
+use Rattle.mr_load.specs.Refusals.{files_read}
+use Rattle.mr_load.specs.Told.{IsTold}
 use Rattle.mr_replay.specs.Text.{history_text}
 
 -- a word that may name a file: 1 to 255 bytes, which do not begin with `out-`
@@ -26,35 +28,46 @@ abbrev pub file_asked : List (List ℕ) → Option (List ℕ)
 file_asked (command ∷ file ∷ []) = if bytes_eq command (codes "replay") && is_file_word file then Some file else None
 file_asked _ = None
 
--- The bytes spell a scenario, the text is that of a legal history of it, and the history has what the scenario asks.
-pub record RunsTo (bytes text : List ℕ) : Type 0 where
+-- The bytes of the file spell a scenario, the text is that of a legal history of it, and the history has what the scenario
+-- asks.
+pub record RunsTo (files : Files) (file text : List ℕ) : Type 0 where
+  pub bytes : List ℕ
   pub scenario : Scenario
   pub history : List Entry
+  pub stored : files file ≡ Some bytes
   pub spells : spelled bytes ≡ Ok scenario
-  pub built : outcome_of bytes ≡ Ok history
-  pub legal : IsLegal (run_limits scenario) history
-  pub made : Made scenario history
-  pub text_is : text ≡ history_text scenario history
+  pub built : outcome_of files file ≡ Ok history
+  pub legal : IsLegal (run_limits files scenario) history
+  pub made : Made files scenario history
+  pub text_is : text ≡ history_text files scenario history
 
--- The file that the words ask for is in the store with these bytes.
-pub record IsAsked (words : List (List ℕ)) (told : Option Files) (bytes : List ℕ) : Type 0 where
-  pub file : List ℕ
+-- The words ask for this file, and these are the files of the store.
+pub record IsAsked (words : List (List ℕ)) (told : Option Files) (files : Files) (file : List ℕ) : Type 0 where
   pub asked : file_asked words ≡ Some file
-  pub stored : HasFile told file bytes
+  pub told_is : IsTold told files
 
 -- The file asked for runs to a text, and so much of the text is taken.
 pub record Replays (words : List (List ℕ)) (told : Option Files) (IsTaken : List ℕ → Type 0) : Type 0 where
-  pub bytes : List ℕ
+  pub files : Files
+  pub file : List ℕ
   pub text : List ℕ
-  pub asked : IsAsked words told bytes
-  pub run : RunsTo bytes text
+  pub asked : IsAsked words told files file
+  pub run : RunsTo files file text
   pub taken : IsTaken text
 
 -- The file asked for comes to this status.
 pub record ComesTo (words : List (List ℕ)) (told : Option Files) (s : Status) : Type 0 where
-  pub bytes : List ℕ
-  pub asked : IsAsked words told bytes
-  pub outcome : outcome_of bytes ≡ Err s
+  pub files : Files
+  pub file : List ℕ
+  pub asked : IsAsked words told files file
+  pub outcome : outcome_of files file ≡ Err s
+
+-- A file of this name is one that is to be read for the file asked for.
+pub record IsToRead (words : List (List ℕ)) (told : Option Files) (name : List ℕ) : Type 0 where
+  pub files : Files
+  pub file : List ℕ
+  pub asked : IsAsked words told files file
+  pub read : Contains (files_read files file) name
 
 -- the statuses with which nothing is written
 abbrev pub is_silent : Status → Bool
@@ -76,20 +89,20 @@ IfStoreFault (status.StoreFault file) P = P file
 IfStoreFault _ P = Unit {0}
 
 -- A loaded scenario comes to the text of a legal history of it, or stops at this line; memory may run out.
-pub record PlaysText (scenario : Scenario) (written : List ℕ) : Type 0 where
+pub record PlaysText (files : Files) (scenario : Scenario) (written : List ℕ) : Type 0 where
   pub history : List Entry
-  pub played_is : played scenario ≡ Ok history
-  pub legal : IsLegal (run_limits scenario) history
-  pub made : Made scenario history
-  pub text_is : written ≡ history_text scenario history
+  pub played_is : played files scenario ≡ Ok history
+  pub legal : IsLegal (run_limits files scenario) history
+  pub made : Made files scenario history
+  pub text_is : written ≡ history_text files scenario history
 
-abbrev pub PlaysTo : Scenario → Result (Vec ℕ) Halt → Type 0
-PlaysTo scenario (Ok v) = PlaysText scenario v.items
-PlaysTo scenario (Err (halt.NotBuilt line)) = played scenario ≡ Err line
-PlaysTo scenario (Err halt.Memory) = Unit {0}
+abbrev pub PlaysTo : Files → Scenario → Result (Vec ℕ) Halt → Type 0
+PlaysTo files scenario (Ok v) = PlaysText files scenario v.items
+PlaysTo files scenario (Err (halt.NotBuilt line)) = played files scenario ≡ Err line
+PlaysTo files scenario (Err halt.Memory) = Unit {0}
 
--- Where no call of the outside failed, a run ends by what the bytes come to: Good where they come to a history, else by the
--- status to which they come. Memory may run out.
+-- Where no call of the outside failed, a run ends by what its file comes to: Good where that is a history, else by the status.
+-- Memory may run out.
 abbrev pub EndsBy : Status → Result (List Entry) Status → Type 0
 EndsBy status.Good outcome = IsOk outcome
 EndsBy status.Memory outcome = Unit {0}

@@ -1,15 +1,8 @@
-pub mod Made
-pub mod Loading
 pub mod Played
-pub mod Unbuilt
-pub mod Faults
 pub mod Outcomes
 pub mod Built
 pub mod Text
 pub mod Endings
 pub mod Laws
 pub mod Journals
-pub mod Skipping
-pub mod Loads
 pub mod Machines
-pub mod Statuses

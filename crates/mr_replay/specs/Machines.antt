@@ -23,8 +23,7 @@ use Rattle.mr_scenario.specs.Fits.{packets_in}
 use Rattle.mr_replay.specs.declared.halt.Halt.{Halt}
 use Rattle.mr_replay.specs.declared.halt.Halt.TheVariants as halt
 use Rattle.mr_replay.specs.Built.{AllBuilt}
-use Rattle.mr_replay.specs.Made.{items_of}
-use Rattle.mr_replay.specs.Played.{lines_of, play_daemons, play_items}
+use Rattle.mr_replay.specs.Played.{items_among, lines_of, play_daemons, play_items}
 use Rattle.mr_words.specs.Binds.{◌>>=◌}
 
 -- the state of a machine with n entries: nothing waits, no report is unread, and no time goes by
@@ -32,10 +31,7 @@ abbrev pub tables : ℕ → Option DaemonNo → List VifRecord → List Route �
 tables n owner vifs routes = record {
   count = n;
   owner = owner;
-  pim = false;
-  asserts = false;
-  vifs = vifs;
-  routes = routes;
+  tables = record { vifs = vifs; routes = routes; pim = false; asserts = false };
   now = 0;
   waiting = [];
   unread = [];
@@ -157,7 +153,7 @@ costs (p ∷ ps) = cost p + costs ps
 -- the numbers of the next items of the lanes from this one on, once these items are behind them
 abbrev pub numbers_behind : ℕ → List ℕ → List Item → List ℕ
 numbers_behind lane [] is = []
-numbers_behind lane (n ∷ ns) is = (n + items_of lane is) ∷ numbers_behind (lane + 1) ns is
+numbers_behind lane (n ∷ ns) is = (n + items_among lane is) ∷ numbers_behind (lane + 1) ns is
 
 -- the lanes from this one on, each with its items from its next number on
 abbrev pub run_lanes : Limits → List Entry → ℕ → List ℕ → List Item → Result (List Entry) ℕ

@@ -1,7 +1,8 @@
 -- The run of a scenario on one thread, and what of it is not built: calls that are not answered `Good`, and packets that are not
 -- plainly forwarded.
-use Rattle.std.specs.Prelude.{ℕ, ◌+◌, ◌==◌, Bool, true, false, not, is_none, if◌then◌else◌, Result, Ok, Err, List, [], ◌∷◌, ◌++◌, length, filter}
+use Rattle.std.specs.Prelude.{ℕ, ◌+◌, ◌==◌, Bool, true, false, not, is_none, if◌then◌else◌, Result, Ok, Err, List, [], ◌∷◌, ◌++◌, length, filter, sum_by}
 use Rattle.mr_base.specs.Heads.{cause_of}
+use Rattle.mr_base.specs.Outside.{Files}
 use Rattle.mr_base.specs.declared.numbers.DaemonNo.{DaemonNo}
 use Rattle.mr_base.specs.declared.numbers.LaneNo.{LaneNo}
 use Rattle.mr_model.specs.declared.entry.Entry.{Entry}
@@ -24,8 +25,9 @@ use Rattle.mr_scenario.specs.declared.scenario.Scenario.{Scenario}
 use Rattle.mr_scenario.specs.declared.scenario.Script.{Script}
 use Rattle.mr_scenario.specs.declared.scenario.Script.TheVariants as script
 use Rattle.mr_scenario.specs.declared.scenario.ScriptLine.{ScriptLine}
-use Rattle.mr_replay.specs.Loading.{one_to, run_limits}
-use Rattle.mr_replay.specs.Made.{flow_of, items_of}
+use Rattle.mr_load.specs.Callers.{one_to}
+use Rattle.mr_load.specs.Loading.{run_limits}
+use Rattle.mr_load.specs.Made.{flow_of}
 use Rattle.mr_words.specs.Binds.{◌>>=◌}
 
 abbrev pub is_good : Reply → Bool
@@ -75,6 +77,10 @@ play_items limits h lane n [] = Ok h
 play_items limits h lane n (i ∷ is) =
     if i.lane.0 == lane then (play_item limits h n i >>= λ g. play_items limits g lane (n + 1) is) else play_items limits h lane n is
 
+-- how many of these items, none of which is a trace, are a lane's
+abbrev pub items_among : ℕ → List Item → ℕ
+items_among lane is = sum_by (λ i. if i.lane.0 == lane then 1 else 0) is
+
 -- the lines of a daemon
 abbrev pub lines_of : ℕ → List ScriptLine → List ScriptLine
 lines_of d ls = filter (λ l. l.daemon.0 == d) ls
@@ -87,18 +93,22 @@ play_daemons limits h ls (d ∷ ds) = play_lines limits h (lines_of d ls) >>= λ
 -- the lanes by number, each with all its items in the phase, behind those of former phases
 abbrev pub play_lanes : Limits → List Entry → List Item → List Item → List ℕ → Result (List Entry) ℕ
 play_lanes limits h before is [] = Ok h
-play_lanes limits h before is (l ∷ ls) = play_items limits h l (items_of l before + 1) is >>= λ g. play_lanes limits g before is ls
+play_lanes limits h before is (l ∷ ls) = play_items limits h l (items_among l before + 1) is >>= λ g. play_lanes limits g before is ls
 
 -- a phase: its daemons, then its lanes, then its end
-abbrev pub play_phase : Scenario → List Entry → List Item → Phase → Result (List Entry) ℕ
-play_phase s h before p =
-    play_daemons (run_limits s) h p.script (one_to (length s.daemons)) >>= λ g.
-    play_lanes (run_limits s) g before p.items (one_to s.lanes) >>= λ k. Ok (k ++ EndPhase ∷ [])
+abbrev pub play_phase : Limits → Scenario → List Entry → List Item → Phase → Result (List Entry) ℕ
+play_phase limits s h before p =
+    play_daemons limits h p.script (one_to (length s.daemons)) >>= λ g.
+    play_lanes limits g before p.items (one_to s.lanes) >>= λ k. Ok (k ++ EndPhase ∷ [])
 
-abbrev pub play_phases : Scenario → List Entry → List Item → List Phase → Result (List Entry) ℕ
-play_phases s h before [] = Ok h
-play_phases s h before (p ∷ ps) = play_phase s h before p >>= λ g. play_phases s g (before ++ p.items) ps
+abbrev pub play_phases : Limits → Scenario → List Entry → List Item → List Phase → Result (List Entry) ℕ
+play_phases limits s h before [] = Ok h
+play_phases limits s h before (p ∷ ps) = play_phase limits s h before p >>= λ g. play_phases limits s g (before ++ p.items) ps
 
--- the history of a scenario, or the line of its first call or packet that is not built
-abbrev pub played : Scenario → Result (List Entry) ℕ
-played s = play_phases s [] [] s.phases
+-- the history of a scenario under limits, or the line of its first call or packet that is not built
+abbrev pub played_under : Limits → Scenario → Result (List Entry) ℕ
+played_under limits s = play_phases limits s [] [] s.phases
+
+-- the same under the scenario's limits, with the packets of each lane
+abbrev pub played : Files → Scenario → Result (List Entry) ℕ
+played files s = played_under (run_limits files s) s

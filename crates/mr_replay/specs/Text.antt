@@ -1,5 +1,6 @@
 -- The text of a history of a scenario: its skips, its entries, and what it ends with.
 use Rattle.std.specs.Prelude.{ℕ, ◌-◌, ◌==◌, if◌then◌else◌, List, [], ◌∷◌, map, codes}
+use Rattle.mr_base.specs.Outside.{Files}
 use Rattle.mr_base.specs.declared.route.Route.{Route}
 use Rattle.mr_base.specs.declared.vif_record.VifRecord.{VifRecord}
 use Rattle.mr_lines.specs.declared.tail.RouteLine.{RouteLine}
@@ -10,7 +11,7 @@ use Rattle.mr_model.specs.declared.entry.Entry.{Entry}
 use Rattle.mr_model.specs.declared.reply.RouteTotals.{RouteTotals}
 use Rattle.mr_model.specs.declared.reply.VifTotals.{VifTotals}
 use Rattle.mr_model.specs.Ending.{ending}
-use Rattle.mr_replay.specs.Loading.{skips_of, run_limits}
+use Rattle.mr_load.specs.Loading.{skips_of, run_limits}
 use Rattle.mr_scenario.specs.declared.scenario.Named.{Named}
 use Rattle.mr_scenario.specs.declared.scenario.Scenario.{Scenario}
 use Rattle.mr_text.specs.Text.{text}
@@ -34,5 +35,5 @@ vif_line devices p = record { vif = p.0.vif; name = device_word devices p.0; tot
 abbrev pub tail_of : List Named → Ending → Tail
 tail_of devices e = record { routes = map route_line e.routes; vifs = map (vif_line devices) e.vifs; fates = e.fates }
 
-abbrev pub history_text : Scenario → List Entry → List ℕ
-history_text s h = text (skips_of s) h (tail_of s.devices (ending (run_limits s) h))
+abbrev pub history_text : Files → Scenario → List Entry → List ℕ
+history_text files s h = text (skips_of files s) h (tail_of s.devices (ending (run_limits files s) h))

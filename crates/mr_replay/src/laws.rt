@@ -1,6 +1,6 @@
 //! Laws of the runs of scenarios.
 
-ghost use Rattle.mr_replay.specs.Laws.{EveryItem, BuiltFates, PlayedIsLegal};
+ghost use Rattle.mr_replay.specs.Laws.{BuiltFates, PlayedIsLegal};
 
 /// The history of a scenario that fits its limits, and whose daemons' lines have room in it, is legal, and has what the
 /// scenario asks.
@@ -11,9 +11,4 @@ pub fn played_is_legal()
 /// The entries that a run makes so far have no fates: no packet had to wait.
 pub fn built_fates()
     ensures { BuiltFates }
-{}
-
-/// Every item of a lane is a packet or a skip.
-pub fn every_item()
-    ensures { EveryItem }
 {}

@@ -7,13 +7,10 @@ mod granting;
 mod halt;
 mod journal;
 mod laws;
-mod loading;
 mod machine;
-mod parts;
 mod playing;
+mod room;
 mod route_list;
-mod skips;
-mod status;
 #[cfg(test)]
 mod tests;
 #[cfg(test)]
@@ -22,11 +19,9 @@ mod tests_lanes;
 mod tests_refused;
 mod top;
 mod totals;
-mod unbuilt;
 mod vif_list;
 mod writing;
 
-pub use laws::{built_fates, every_item, played_is_legal};
-pub use loading::{Loaded, load};
-pub use status::Status;
+pub use laws::{built_fates, played_is_legal};
+pub use mr_load::{Loaded, Status, load};
 pub use top::run;

@@ -7,11 +7,11 @@ ghost use Rattle.mr_model.specs.Ending.{ending};
 ghost use Rattle.mr_model.specs.Outcome.{outcome as outcome_of};
 ghost use Rattle.mr_model.specs.Verdict.{verdict_in};
 ghost use Rattle.mr_replay.specs.Built.{AllBuilt};
-ghost use Rattle.mr_replay.specs.Loading.{one_to, run_limits};
+ghost use Rattle.mr_load.specs.Callers.{one_to};
 ghost use Rattle.mr_replay.specs.Machines.{Follows, HasRoom, RunsOn, Comes, IsCounted, IsRouteOf, IsVifOf, cost, costs, daemons_cost, lane_cost, lanes_cost, numbers_behind, packets_among, routes_with, run_lanes, run_phase, run_phases, vifs_with};
-ghost use Rattle.mr_replay.specs.Made.{flow_of, items_of};
+ghost use Rattle.mr_load.specs.Made.{flow_of};
 ghost use Rattle.mr_replay.specs.Outcomes.{controls_due};
-ghost use Rattle.mr_replay.specs.Played.{lines_of, play_daemons, play_given, play_item, play_items, play_line, play_lines, play_phases, played, with_outcome};
+ghost use Rattle.mr_replay.specs.Played.{items_among, lines_of, play_daemons, play_given, play_item, play_items, play_line, play_lines, play_phases, played_under, with_outcome};
 ghost use Rattle.mr_scenario.specs.Fits.{Fits, packets_in, packets_of};
 ghost use Rattle.mr_model.specs.declared.entry.Entry.TheVariants.{EndPhase, Slow};
 ghost use Rattle.mr_model.specs.declared.outcome.Outcome.TheVariants as outcome;
@@ -24,10 +24,10 @@ use crate::granting::{add_mfc, add_vif, init};
 use crate::halt::Halt;
 use crate::journal::{Forwarded, Journal};
 use crate::machine::Machine;
-use crate::parts::phases_of;
 use crate::totals::{count_route, count_vifs};
 use mr_base::{DaemonNo, Head, LaneNo, Mask};
 use mr_ip::read_head;
+use mr_load::phases_of;
 use mr_model::{Entry, Flow, Limits, Request, Verdict};
 use mr_scenario::{Given, Item, Phase, Scenario, Script, ScriptLine};
 use std::alloc::Global;
@@ -264,7 +264,7 @@ fn play_items<'a>(
     requires room { HasRoom machine (lane_cost lane items.now + 1) }
     requires numbers { next.now + lane_cost lane items.now ≤ 4194304 }
     ensures runs { RunsOn machine.entry result (play_items machine.entry.limits.now machine.entry.entries lane next.old items.now) }
-    ensures next { IfOk result (λ _. next.new ≡ next.old + items_of lane items.now) }
+    ensures next { IfOk result (λ _. next.new ≡ next.old + items_among lane items.now) }
     ensures grows { IfOk result (λ m. length m.entries ≤ length machine.entry.entries + lane_cost lane items.now) }
 {
     let mut machine = machine;
@@ -433,9 +433,9 @@ fn machine_behind<'a>(
     limits: &'a Limits,
 ) -> Result<Machine<'a>, Halt>
     requires fits { Fits scenario.now }
-    requires limits { limits.now ≡ run_limits scenario.now }
+    requires devices { limits.now.devices ≡ scenario.now.limits.devices }
     requires room { controls_due scenario.now ≤ scenario.now.limits.controls }
-    ensures history { Comes (λ m. m.entries) result (played scenario.now) }
+    ensures history { Comes (λ m. m.entries) result (played_under limits.now scenario.now) }
     ensures follows { IfOk result Follows }
     ensures limits { IfOk result (λ m. m.limits.now ≡ limits.now) }
 {
@@ -453,12 +453,12 @@ fn machine_behind<'a>(
 /// `NotBuilt` with the first line whose call or packet comes to what is not built, or `Memory`.
 pub fn play(alloc: Global, scenario: &Scenario, limits: &Limits) -> Result<Run, Halt>
     requires fits { Fits scenario.now }
-    requires limits { limits.now ≡ run_limits scenario.now }
+    requires devices { limits.now.devices ≡ scenario.now.limits.devices }
     requires room { controls_due scenario.now ≤ scenario.now.limits.controls }
-    ensures history { Comes (λ r. r.entries) result (played scenario.now) }
+    ensures history { Comes (λ r. r.entries) result (played_under limits.now scenario.now) }
     ensures built { IfOk result (λ r. AllBuilt r.entries) }
-    ensures routes { IfOk result (λ r. r.routes.items ≡ (ending (run_limits scenario.now) r.entries).routes) }
-    ensures vifs { IfOk result (λ r. r.vifs.items ≡ (ending (run_limits scenario.now) r.entries).vifs) }
+    ensures routes { IfOk result (λ r. r.routes.items ≡ (ending limits.now r.entries).routes) }
+    ensures vifs { IfOk result (λ r. r.vifs.items ≡ (ending limits.now r.entries).vifs) }
 {
     let machine = machine_behind(alloc, scenario, limits)?;
     ended(alloc, machine)

@@ -2,22 +2,21 @@
 
 ghost use Rattle.std.specs.Prelude.{ℕ, List, [], ◌≡◌, ◌⊎◌, ◌↔◌, ◌≤◌, length, map, string_bytes, MatchOption, IfOk, IfSome, None, Some, true, Ok};
 ghost use Rattle.mr_base.specs.Outside.{Files, Rose, AllStay, Takes, TakesPrefix};
-ghost use Rattle.mr_replay.specs.Endings.{is_file_word, file_asked, RunsTo, Replays, ComesTo, PlaysTo, is_silent, IfScenario, IfNotBuilt, IfStoreFault, EndsBy};
-ghost use Rattle.mr_replay.specs.Faults.{failed_read};
-ghost use Rattle.mr_replay.specs.Loads.{IsLoaded};
-ghost use Rattle.mr_replay.specs.Loading.{run_limits, skips_of};
+ghost use Rattle.mr_replay.specs.Endings.{is_file_word, file_asked, Replays, ComesTo, IsToRead, PlaysTo, is_silent, IfScenario, IfNotBuilt, IfStoreFault, EndsBy};
+ghost use Rattle.mr_load.specs.Faults.{failed_read};
+ghost use Rattle.mr_load.specs.Loads.{IsLoaded};
+ghost use Rattle.mr_load.specs.Loading.{run_limits, skips_of};
 ghost use Rattle.mr_replay.specs.Outcomes.{controls_due, outcome_of};
 ghost use Rattle.mr_scenario.specs.Fits.{Fits};
-ghost use Rattle.mr_replay.specs.declared.status.Status.TheVariants as status;
+ghost use Rattle.mr_load.specs.declared.status.Status.TheVariants as status;
 
 use crate::halt::Halt;
-use crate::loading::{Loaded, load};
-use crate::parts::devices_of;
 use crate::playing::play;
-use crate::status::Status;
+use crate::room::has_room;
 use crate::writing::write_run;
 use mr_base::{Clock, Door, Gate, Sink, Store};
 use mr_lines::Skip;
+use mr_load::{Loaded, Status, devices_of, load};
 use mr_model::Limits;
 use mr_scenario::Scenario;
 use std::alloc::Global;
@@ -59,9 +58,11 @@ fn text_of(
 ) -> Result<Vec<u8>, Halt>
     requires fits { Fits scenario.now }
     requires room { controls_due scenario.now ≤ scenario.now.limits.controls }
-    requires limits { limits.now ≡ run_limits scenario.now }
-    requires skips { skips.now ≡ skips_of scenario.now }
-    ensures { PlaysTo scenario.now result }
+    requires devices { limits.now.devices ≡ scenario.now.limits.devices }
+    ensures { (files : Files) →
+        limits.now ≡ run_limits files scenario.now →
+        skips.now ≡ skips_of files scenario.now →
+        PlaysTo files scenario.now result }
 {
     let run = play(alloc, scenario, limits)?;
     let devices = devices_of(scenario);
@@ -78,8 +79,10 @@ fn skips_of(loaded: &Loaded) -> &[Skip]
 
 /// The text of the history to which a loaded scenario comes.
 fn history_of(alloc: Global, loaded: &Loaded) -> Result<Vec<u8>, Halt>
-    requires { IsLoaded loaded.now }
-    ensures { PlaysTo loaded.now.scenario result }
+    requires fits { Fits loaded.now.scenario }
+    requires room { controls_due loaded.now.scenario ≤ loaded.now.scenario.limits.controls }
+    requires devices { loaded.now.limits.devices ≡ loaded.now.scenario.limits.devices }
+    ensures { (files : Files) → IsLoaded files loaded.now → PlaysTo files loaded.now.scenario result }
 {
     text_of(alloc, &loaded.scenario, &loaded.limits, skips_of(loaded))
 }
@@ -100,10 +103,10 @@ fn put<K: Sink>(out: &mut K, text: &[u8]) -> Status
 /// Runs the command that `words` (those after the program's name) spell: `replay SCENARIO` reads the scenario of that
 /// name from the store, runs it and writes the text of its history to `out`. Other words are `Usage`.
 ///
-/// The statuses in their order: `Usage`; `StoreFault`, where the scenario cannot be read; `Scenario` with its first bad line;
-/// `NotBuilt` with the first line whose form is not built yet; `ControlFull`, where the daemons' lines are more than the
-/// scenario's limit; `NotBuilt` with the first call or packet whose outcome is not built; `SinkFault`. `Memory` may come
-/// wherever memory is taken. With any but `Good` and `SinkFault` nothing is written.
+/// The statuses in their order: `Usage`; those of loading, which are `StoreFault`, where the scenario cannot be read,
+/// `Scenario` with its first bad line, and `NotBuilt` with the first line whose form is not built yet; `ControlFull`, where
+/// the daemons' lines are more than the scenario's limit; `NotBuilt` with the first call or packet whose outcome is not
+/// built; `SinkFault`. `Memory` may come wherever memory is taken. With any but `Good` and `SinkFault` nothing is written.
 ///
 /// The runtime, the door, the clock and the gate are not asked yet.
 pub fn run<R: Wait + Threads + Sync, S: Store, K: Sink, D: Door, C: Clock, G: Gate + Sync>(
@@ -126,21 +129,20 @@ pub fn run<R: Wait + Threads + Sync, S: Store, K: Sink, D: Door, C: Clock, G: Ga
     ensures not_built { IfNotBuilt result (λ line. ComesTo (map string_bytes words.now) (S.told store.old) (status.NotBuilt line)) }
     // The lines of the daemons are more than the limit on control entries.
     ensures control_full { result ≡ status.ControlFull → ComesTo (map string_bytes words.now) (S.told store.old) status.ControlFull }
-    // The file asked for, whose read failed, and the store's count rose.
-    ensures store_fault { IfStoreFault result (λ file. file_asked (map string_bytes words.now) ≡ Some file) }
-    ensures store_last { IfStoreFault result (λ file. S.last store.new ≡ failed_read file) }
-    ensures store_rose { IfStoreFault result (λ file. Rose (S.faults store.old) (S.faults store.new)) }
+    // A file that was to be read, whose read failed, and the store's count rose.
+    ensures store_fault { IfStoreFault result (λ name. IsToRead (map string_bytes words.now) (S.told store.old) name) }
+    ensures store_last { IfStoreFault result (λ name. S.last store.new ≡ failed_read name) }
+    ensures store_rose { IfStoreFault result (λ _. Rose (S.faults store.old) (S.faults store.new)) }
     // What was taken is a prefix of the text that Good would have written, and the sink's count rose.
     ensures sink_fault { result ≡ status.SinkFault → Replays (map string_bytes words.now) (S.told store.old) (λ text. TakesPrefix (K.taken out.old) text (K.taken out.new)) }
     ensures sink_rose { result ≡ status.SinkFault → Rose (K.faults out.old) (K.faults out.new) }
-    // Over a store that tells, and where no count of faults rose, the file's bytes decide the status.
-    ensures complete { (files : Files) (file bytes : List ℕ) →
+    // Over a store that tells, and where no count of faults rose, its files decide the status.
+    ensures complete { (files : Files) (file : List ℕ) →
         file_asked (map string_bytes words.now) ≡ Some file →
         S.told store.old ≡ Some files →
-        files file ≡ Some bytes →
         (Rose (S.faults store.old) (S.faults store.new) → ⊥) →
         (Rose (K.faults out.old) (K.faults out.new) → ⊥) →
-        EndsBy result (outcome_of bytes) }
+        EndsBy result (outcome_of files file) }
     // With the other statuses nothing is written, and no file ever changes.
     ensures silent { is_silent result ≡ true → out.new ≡ out.old }
     ensures files { AllStay (S.told store.old) (S.told store.new) }
@@ -152,6 +154,9 @@ pub fn run<R: Wait + Threads + Sync, S: Store, K: Sink, D: Door, C: Clock, G: Ga
         Ok(loaded) => loaded,
         Err(status) => return status,
     };
+    if !has_room(&loaded.scenario) {
+        return Status::ControlFull;
+    }
     match history_of(alloc, &loaded) {
         Ok(text) => put(out, text.as_slice()),
         Err(Halt::NotBuilt(line)) => Status::NotBuilt { line },

@@ -12,5 +12,5 @@ machine_of-requires-clause-room c = rw (c.phases_of-phases.ensures) (costs_fit c
 
 pub returns-clause-history : goal.returns-clause-history
 returns-clause-history c =
-    let comes = rw (c.daemons_to-daemons.ensures, c.daemon_count.ensures, c.phases_of-phases.ensures, c.requires.limits) at c.machine_of.ensures.history in
-    subst (λ run. Comes (λ m. m.entries) c.machine_of.result run) (played_is c.args.scenario.now) comes
+    let comes = rw (c.daemons_to-daemons.ensures, c.daemon_count.ensures, c.phases_of-phases.ensures) at c.machine_of.ensures.history in
+    subst (λ run. Comes (λ m. m.entries) c.machine_of.result run) (played_is c.args.limits.now c.args.scenario.now) comes

@@ -1,0 +1,11 @@
+pub mod Callers
+pub mod Made
+pub mod Loading
+pub mod Unbuilt
+pub mod Told
+pub mod Faults
+pub mod Refusals
+pub mod Skipping
+pub mod Loads
+pub mod Statuses
+pub mod Laws

@@ -1,0 +1,103 @@
+-- A history has, phase by phase, each lane's packets and each daemon's calls once and in their order. What a scenario asks
+-- stands in its lines and in the files that they name; no such file is looked into yet.
+use Rattle.std.specs.Prelude.{◌≡◌, ℕ, ◌+◌, ◌==◌, ◌≤◌, false, is_none, if◌then◌else◌, List, [], ◌∷◌, ◌++◌, length, map, flat_map, slice_index, sum_by}
+use Rattle.std.specs.List.{AllByRecursion, list_any}
+use Rattle.mr_base.specs.Heads.{cause_of, two_at, four_at}
+use Rattle.mr_base.specs.Outside.{Files}
+use Rattle.mr_load.specs.Callers.{IsCalled}
+use Rattle.mr_model.specs.declared.entry.Entry.{Entry}
+use Rattle.mr_model.specs.declared.entry.Entry.TheVariants.{Call, Slow, Settle, Tick, Recv, EndPhase}
+use Rattle.mr_model.specs.declared.flow.Flow.{Flow}
+use Rattle.mr_model.specs.Past.{is_end}
+use Rattle.mr_model.specs.declared.request.Request.TheVariants.{Unknown}
+use Rattle.mr_scenario.specs.declared.scenario.Given.{Given}
+use Rattle.mr_scenario.specs.declared.scenario.Given.TheVariants.{Bytes, Trace}
+use Rattle.mr_scenario.specs.declared.scenario.Item.{Item}
+use Rattle.mr_scenario.specs.declared.scenario.Phase.{Phase}
+use Rattle.mr_scenario.specs.declared.scenario.Scenario.{Scenario}
+use Rattle.mr_scenario.specs.declared.scenario.Script.{Script}
+use Rattle.mr_scenario.specs.declared.scenario.Script.TheVariants as script
+use Rattle.mr_scenario.specs.declared.scenario.ScriptLine.{ScriptLine}
+
+-- a packet as a history names it: its item number and its flow
+pub record Sent : Type 0 where
+  pub index : ℕ
+  pub flow : Flow
+
+-- the packets of a lane in an entry
+abbrev pub sent_in : ℕ → Entry → List Sent
+sent_in lane (Slow l index look flow o) = if l.0 == lane then record { index = index; flow = flow } ∷ [] else []
+sent_in lane (Settle l records) = if l.0 == lane then map (λ r. record { index = r.index; flow = r.flow }) records else []
+sent_in lane _ = []
+
+abbrev pub sent : ℕ → List Entry → List Sent
+sent lane h = flat_map (sent_in lane) h
+
+-- what a daemon asks in an entry
+abbrev pub asked_in : ℕ → Entry → List Script
+asked_in d (Call c r reply released) = if c.0 == d then script.Ask r ∷ [] else []
+asked_in d (Tick c ms) = if c.0 == d then script.Tick ms ∷ [] else []
+asked_in d (Recv c message) = if c.0 == d then script.Recv ∷ [] else []
+asked_in d _ = []
+
+abbrev pub asked : ℕ → List Entry → List Script
+asked d h = flat_map (asked_in d) h
+
+-- the flow of bytes that begin with an accepted head and came on a device
+abbrev pub flow_of : ℕ → List ℕ → Flow
+flow_of dev bs = record {
+  dev = dev;
+  src = record { 0 = four_at bs 12 };
+  dst = record { 0 = four_at bs 16 };
+  ttl = slice_index bs 8;
+  length = two_at bs 2;
+}
+
+-- item number n of a lane as a packet; none where its head is refused. Traces are not read yet.
+abbrev pub packet_of : Files → ℕ → ℕ → Given → List Sent
+packet_of files n dev (Bytes bs) = if is_none (cause_of bs) then record { index = n; flow = flow_of dev bs } ∷ [] else []
+packet_of files n dev (Trace file) = []
+
+-- the packets of a lane among items, of which the lane's first has number n
+abbrev pub packets_from : Files → ℕ → ℕ → List Item → List Sent
+packets_from files lane n [] = []
+packets_from files lane n (i ∷ is) =
+    if i.lane.0 == lane then packet_of files n i.dev i.given ++ packets_from files lane (n + 1) is else packets_from files lane n is
+
+-- how many items of a lane there are, and so the number of the last one
+abbrev pub items_of : Files → ℕ → List Item → ℕ
+items_of files lane is = sum_by (λ i. if i.lane.0 == lane then 1 else 0) is
+
+-- the packets of a lane in a phase behind the items of the phases before
+abbrev pub to_send : Files → ℕ → List Item → Phase → List Sent
+to_send files lane before p = packets_from files lane (items_of files lane before + 1) p.items
+
+-- A line that asks for another table asks for an option that cannot be set (MRT_TABLE, 209).
+abbrev pub as_asked : Script → Script
+as_asked (script.Table n) = script.Ask (Unknown 209)
+as_asked s = s
+
+abbrev pub of_daemon : ℕ → ScriptLine → List Script
+of_daemon d l = if l.daemon.0 == d then as_asked l.script ∷ [] else []
+
+-- what a daemon is to ask in a phase
+abbrev pub to_ask : ℕ → Phase → List Script
+to_ask d p = flat_map (of_daemon d) p.script
+
+-- These entries are those of a phase: no end of a phase, nothing of a lane or a daemon that the scenario does not have, and of
+-- each lane the packets and of each daemon the lines, once and in order.
+pub record PartOf (files : Files) (scenario : Scenario) (before : List Item) (p : Phase) (part : List Entry) : Type 0 where
+  pub no_end : list_any is_end part ≡ false
+  pub callers : AllByRecursion (IsCalled scenario) part
+  pub lanes : (lane : ℕ) → 1 ≤ lane → lane ≤ scenario.lanes → sent lane part ≡ to_send files lane before p
+  pub daemons : (d : ℕ) → 1 ≤ d → d ≤ length scenario.daemons → asked d part ≡ to_ask d p
+
+-- a history of these phases, behind items of former ones: each phase's entries and its end, and nothing after the last
+abbrev pub MadeFrom : Files → Scenario → List Item → List Phase → List Entry → Type 0
+MadeFrom files scenario before [] h = h ≡ []
+MadeFrom files scenario before (p ∷ ps) h =
+    (part : List Entry) × (rest : List Entry) × (h ≡ part ++ EndPhase ∷ rest)
+    × PartOf files scenario before p part × MadeFrom files scenario (before ++ p.items) ps rest
+
+abbrev pub Made : Files → Scenario → List Entry → Type 0
+Made files scenario h = MadeFrom files scenario [] scenario.phases h

@@ -1,0 +1,15 @@
+//! A scenario is loaded: read from a store, and its items told apart into packets and skips. And what a history of a
+//! scenario has to have: each lane's packets and each daemon's calls, once and in their order.
+#![tactic(auto)]
+
+mod laws;
+mod loading;
+mod parts;
+mod skips;
+mod status;
+mod unbuilt;
+
+pub use laws::every_item;
+pub use loading::{Loaded, load};
+pub use parts::{devices_of, lines_of, phases_of};
+pub use status::Status;

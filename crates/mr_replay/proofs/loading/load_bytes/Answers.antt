@@ -1,8 +1,0 @@
-use Rattle.std.proofs.Common.{sym, ◌∙◌}
-use Rattle.mr_replay.specs.Unbuilt.{smc_line}
-use Rattle.mr_replay.proofs.AllBytes.{none_unbuilt}
-use Rattle.mr_replay.proofs.loading.load_bytes.Goals as goal
-
-pub with_items-requires-clause-bytes : goal.with_items-requires-clause-bytes
-with_items-requires-clause-bytes c =
-    none_unbuilt (smc_line c.args.bytes.now c.in-Ok.scenario) c.in-Ok.scenario.phases (sym c.first_unbuilt.ensures ∙ c.in_default.is)
