@@ -1,6 +1,7 @@
 -- An entry that is deleted and added again is a new one, with counters of its own.
-use Rattle.std.specs.Prelude.{List, [], ◌∷◌, ◌++◌, take, drop}
-use Rattle.mr_model.specs.Changes.{GoodCall}
+use Rattle.std.specs.Prelude.{false, List, [], ◌∷◌, ◌++◌, take, drop}
+use Rattle.mr_model.specs.declared.change.Change.{Change}
+use Rattle.mr_model.specs.declared.change.What.TheVariants.{AddVif, NewRoute, DropRoute}
 use Rattle.mr_model.specs.declared.ending.Ending.{Ending}
 use Rattle.mr_model.specs.declared.entry.Entry.{Entry}
 use Rattle.mr_model.specs.declared.entry.Entry.TheVariants.{EndPhase}
@@ -8,7 +9,7 @@ use Rattle.mr_model.specs.declared.limits.Limits.{Limits}
 use Rattle.mr_model.specs.declared.reply.Reply.TheVariants.{Sg}
 use Rattle.mr_model.specs.declared.request.Request.{Request}
 use Rattle.mr_model.specs.declared.request.Request.TheVariants.{DelMfc, SgCount}
-use Rattle.mr_rows.specs.Samples.{source, group, usual, daemon, add_vif, add_mfc, key, call, good, opening, packet, slow, forward, route, vif, route_totals, vif_totals, fast, settle}
+use Rattle.mr_rows.specs.Samples.{source, group, usual, thresholds, add_mfc, key, call, good, opening, packet, slow, forward, route, vif, route_totals, vif_totals, fast, settle, change}
 
 abbrev pub limits : Limits
 limits = usual 3 1 (0 ∷ 1 ∷ [])
@@ -44,11 +45,11 @@ tail = record {
   fates = [];
 }
 
--- The calls that changed the tables: the vifs, and the entry three times.
-abbrev pub changed : List GoodCall
+-- Each vif and each entry is added with its values; the entry that is deleted goes by its number.
+abbrev pub changed : List Change
 changed =
-    record { number = 2; daemon = daemon 1; request = add_vif 0 8 1 }
-    ∷ record { number = 3; daemon = daemon 1; request = add_vif 1 8 2 }
-    ∷ record { number = 4; daemon = daemon 1; request = entry_made }
-    ∷ record { number = 8; daemon = daemon 1; request = DelMfc (key source group 0) }
-    ∷ record { number = 9; daemon = daemon 1; request = entry_made } ∷ []
+    change 2 (AddVif 0 1 false false)
+    ∷ change 3 (AddVif 1 2 false false)
+    ∷ change 4 (NewRoute source group 0 (thresholds 255 ((1, 1) ∷ [])) false)
+    ∷ change 8 (DropRoute 4)
+    ∷ change 9 (NewRoute source group 0 (thresholds 255 ((1, 1) ∷ [])) false) ∷ []

@@ -36,4 +36,7 @@ pub mod ChecksInOrder
 pub mod JoinsWhenFull
 pub mod ProxyOfTheParent
 pub mod NoRoomTwice
+pub mod AllChanges
 pub mod NearMisses
+pub mod SideBySide
+pub mod MadeMisses

@@ -148,6 +148,12 @@ kept_back =
     release.before_entry
     ++ Call (daemon 1) release.entry_made Good (freed 1 release.sent ∷ freed 2 release.sent ∷ freed 3 release.sent ∷ []) ∷ []
 
+-- a packet that was released is released again by the next call
+abbrev pub released_again : List Entry
+released_again =
+    take 13 release.history
+    ++ Call (daemon 1) release.entry_made Good (freed 1 release.sent ∷ []) ∷ []
+
 -- an entry for any origin releases a packet
 abbrev pub wildcard_releases : List Entry
 wildcard_releases = wildcard.parked ++ Call (daemon 1) wildcard.entry_made Good (freed 1 (forward 7 0 (1 ∷ [])) ∷ []) ∷ []

@@ -8,6 +8,8 @@ use Rattle.mr_base.specs.declared.numbers.LaneNo.{LaneNo}
 use Rattle.mr_base.specs.declared.numbers.Mask.{Mask}
 use Rattle.mr_base.specs.declared.route.Route.{Route}
 use Rattle.mr_base.specs.declared.vif_record.VifRecord.{VifRecord}
+use Rattle.mr_model.specs.declared.change.Change.{Change}
+use Rattle.mr_model.specs.declared.change.What.{What}
 use Rattle.mr_model.specs.declared.ending.Fate.{Fate}
 use Rattle.mr_model.specs.declared.ending.FateLine.{FateLine}
 use Rattle.mr_model.specs.declared.entry.Entry.{Entry}
@@ -198,3 +200,7 @@ fixed_route number src dst parent pairs = record (route number src dst parent pa
 
 abbrev pub fixed_vif : ℕ → ℕ → ℕ → VifRecord
 fixed_vif i dev number = record (vif i dev number) { fixed = true }
+
+-- the change that call n makes
+abbrev pub change : ℕ → What → Change
+change n what = record { number = n; what = what }

@@ -14,6 +14,7 @@ ghost use Rattle.mr_model.specs.Vifs.{vifs};
 ghost use Rattle.mr_model.specs.declared.message.Kind.TheVariants.{NoCache};
 ghost use Rattle.mr_rows.specs.Samples.{daemon, register, report, route_totals, vif};
 ghost use Rattle.mr_rows.specs.ControlErrors as errors;
+ghost use Rattle.mr_rows.specs.AllChanges as every;
 ghost use Rattle.mr_rows.specs.CountersStartAgain as again;
 ghost use Rattle.mr_rows.specs.ChecksInOrder as checks;
 ghost use Rattle.mr_rows.specs.ChangedInPlace as changing;
@@ -42,8 +43,17 @@ pub fn counters_start_again()
     ensures fast_legal { IsLegal again.limits again.fast_history }
     ensures fast_lively { IsLively again.limits again.fast_history }
     ensures fast_ending { ending again.limits again.fast_history ≡ again.tail }
-    ensures changes { changes again.history ≡ again.changed }
+    ensures changes { changes again.limits again.history ≡ again.changed }
     ensures first_entry { route_counts again.history 4 ≡ route_totals 1 28 0 }
+{}
+
+/// Each change of the tables has the number of its call and the values that hold after it: an old
+/// entry and one that goes by its number, thresholds of vifs that are there, and whether it is
+/// static. Init and what is refused or only reads change nothing, and an owner that leaves
+/// flushes.
+pub fn all_changes()
+    ensures legal { IsLegal every.limits every.history }
+    ensures changes { changes every.limits every.history ≡ every.changed }
 {}
 
 /// What another admin adds is static and stays when the owner leaves. The owner's own entry and vifs go, and

@@ -1,9 +1,12 @@
 //! One value of a worked history or ending is another, and it is none.
 
-ghost use Rattle.std.specs.Prelude.{◌≡◌};
+ghost use Rattle.std.specs.Prelude.{◌≡◌, ℕ, true};
+ghost use Rattle.mr_model.specs.declared.ending.Fate.TheVariants.{Released, Expired, Flushed, Waiting};
 ghost use Rattle.mr_model.specs.Ending.{ending};
+ghost use Rattle.mr_model.specs.Fate.{IsFate, was_parked};
 ghost use Rattle.mr_model.specs.Legal.{IsLegal};
 ghost use Rattle.mr_model.specs.Lively.{IsLively};
+ghost use Rattle.mr_rows.specs.Samples.{lane};
 ghost use Rattle.mr_rows.specs.ControlErrors as errors;
 ghost use Rattle.mr_rows.specs.CountersStartAgain as again;
 ghost use Rattle.mr_rows.specs.Expiry as expiring;
@@ -97,6 +100,22 @@ pub fn ending_near_misses()
     ensures early { ending expiring.limits expiring.history ≡ misses.early_tail → ⊥ }
     ensures short_ticks { ending expiring.limits misses.short_ticks ≡ expiring.tail → ⊥ }
     ensures plain { ending leaving.limits leaving.history ≡ misses.plain_tail → ⊥ }
+{}
+
+/// Of a packet that is kept back at a release no fate holds, though it was parked. Of one that is
+/// released twice two fates hold. Neither history is legal.
+pub fn fate_near_misses()
+    ensures kept_back_parked { was_parked misses.kept_back (lane 1) 4 ≡ true }
+    ensures kept_back_released { (n : ℕ) →
+        IsFate release.limits misses.kept_back (lane 1) 4 (Released n) → ⊥ }
+    ensures kept_back_expired { (n : ℕ) →
+        IsFate release.limits misses.kept_back (lane 1) 4 (Expired n) → ⊥ }
+    ensures kept_back_flushed { (n : ℕ) →
+        IsFate release.limits misses.kept_back (lane 1) 4 (Flushed n) → ⊥ }
+    ensures kept_back_waiting { IsFate release.limits misses.kept_back (lane 1) 4 Waiting → ⊥ }
+    ensures released_first { IsFate release.limits misses.released_again (lane 1) 1 (Released 13) }
+    ensures released_again { IsFate release.limits misses.released_again (lane 1) 1 (Released 14) }
+    ensures again_refused { IsLegal release.limits misses.released_again → ⊥ }
 {}
 
 /// A lively history takes the lock for no plain forward, and settles a lane's packets together as long as

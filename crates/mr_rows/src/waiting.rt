@@ -1,16 +1,21 @@
 //! Packets that miss.
 
 ghost use Rattle.std.specs.Prelude.{◌≡◌, [], ◌∷◌};
+ghost use Rattle.mr_model.specs.declared.ending.Fate.TheVariants.{Released, Expired, Flushed, Waiting};
 ghost use Rattle.mr_model.specs.Ending.{ending};
+ghost use Rattle.mr_model.specs.Fate.{IsFate};
 ghost use Rattle.mr_model.specs.Legal.{IsLegal};
 ghost use Rattle.mr_model.specs.Lively.{IsLively};
 ghost use Rattle.mr_model.specs.Now.{now};
 ghost use Rattle.mr_model.specs.Unread.{unread};
 ghost use Rattle.mr_model.specs.Waiting.{waiting};
+ghost use Rattle.mr_rows.specs.Samples.{lane};
 ghost use Rattle.mr_rows.specs.Expiry as expiring;
+ghost use Rattle.mr_rows.specs.FlushedByBits as flushes;
 ghost use Rattle.mr_rows.specs.JoinsWhenFull as joining;
 ghost use Rattle.mr_rows.specs.NobodyOwns as nobody;
 ghost use Rattle.mr_rows.specs.NoRoomTwice as twice;
+ghost use Rattle.mr_rows.specs.StaticByCaller as leaving;
 ghost use Rattle.mr_rows.specs.WaitingEntriesFull as full;
 ghost use Rattle.mr_rows.specs.WaitingPacketsReleased as release;
 ghost use Rattle.mr_rows.specs.WaitsFromTheFirst as first_packet;
@@ -23,6 +28,16 @@ pub fn waiting_packets_released()
     ensures ending { ending release.limits release.history ≡ release.tail }
     ensures lively { IsLively release.limits release.history }
     ensures nothing_waits { waiting release.limits release.history ≡ [] }
+{}
+
+/// Each of the four fates as a fact of a packet: the call that names it, the tick that makes ten
+/// seconds full, the owner that leaves and the flush by flag 1, and none of them so far.
+pub fn facts_of_fates()
+    ensures released { IsFate release.limits release.history (lane 1) 4 (Released 13) }
+    ensures expired { IsFate expiring.limits expiring.history (lane 1) 1 (Expired 7) }
+    ensures left { IsFate leaving.limits leaving.history (lane 1) 1 (Flushed 11) }
+    ensures flushed { IsFate flushes.limits flushes.history (lane 1) 1 (Flushed 12) }
+    ensures waits { IsFate flushes.limits flushes.static_gone (lane 1) 1 Waiting }
 {}
 
 /// Without an owner no packet waits.
