@@ -1,0 +1,11 @@
+pub mod Sending
+pub mod Saying
+pub mod Flows
+pub mod Telling
+pub mod Decimals
+pub mod Frees
+pub mod Rows
+pub mod Reading
+pub mod Rooms
+pub mod FewPackets
+pub mod Whole
