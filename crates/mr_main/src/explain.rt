@@ -1,12 +1,16 @@
 //! What a status that is not Good means, as one line on standard error.
 
+use crate::folder::LONGEST;
 use crate::form::{form, limit};
-use crate::found::{bad_address, bad_file, bad_number, bad_threshold, text_at};
+use crate::found::{bad_address, bad_file, bad_number, bad_threshold, text_at, word_at};
+use crate::shown::shown;
 use mr_replay::Status;
 use mr_scenario::Kind;
 use std::alloc::{AllocError, Global};
+use std::fs::File;
+use std::io::Read;
 use std::rt::Files;
-use std::{fs, io, str};
+use std::{fs, io};
 
 /// What is built of scenarios.
 const BUILT: &str =
@@ -20,11 +24,6 @@ fn line_at(bytes: &[u8], line: u32) -> &[u8] {
         Some(found) => found,
         None => &[],
     }
-}
-
-/// A line as a text; one that is no text is shown as '..'.
-fn whole(line: &[u8]) -> &str {
-    str::from_utf8(line).unwrap_or("..")
 }
 
 /// What is bad in a line with a mistake of this kind.
@@ -46,14 +45,14 @@ fn subject(kind: Kind) -> &'static str {
 }
 
 /// The bad word of a line, or the whole line where no word alone is bad.
-fn found(line: &[u8], kind: Kind) -> &str {
+fn found(line: &[u8], kind: Kind) -> &[u8] {
     match kind {
-        Kind::Header | Kind::Word | Kind::Limit => whole(line),
+        Kind::Header | Kind::Word | Kind::Limit => line,
         Kind::Number => bad_number(line).0,
         Kind::Address => bad_address(line),
-        Kind::Name | Kind::Lane | Kind::Daemon => text_at(line, 1),
-        Kind::Device => text_at(line, 3),
-        Kind::Hex => text_at(line, 4),
+        Kind::Name | Kind::Lane | Kind::Daemon => word_at(line, 1),
+        Kind::Device => word_at(line, 3),
+        Kind::Hex => word_at(line, 4),
         Kind::Threshold => bad_threshold(line),
         Kind::File => bad_file(line),
     }
@@ -84,9 +83,18 @@ fn expected(line: &[u8], kind: Kind) -> &'static str {
 /// What is wrong with a line: what was found, and what was expected.
 pub fn mistake(alloc: Global, line: &[u8], kind: Kind) -> Result<String, AllocError> {
     let what = subject(kind);
-    let word = found(line, kind);
+    let word = shown(alloc, found(line, kind))?;
     let wanted = expected(line, kind);
     format!(in alloc; "bad {what} '{word}' ({wanted})")
+}
+
+/// The bytes of the scenario as it is now, for its line. A pipe gives its bytes once, so only a plain file is read again.
+fn bytes_again<R: Files + AllocGlobal>(rt: &R, file: &str) -> io::Result<Vec<u8>> {
+    let mut bytes = Vec::new(rt.alloc());
+    if fs::metadata(rt, file)?.is_file() {
+        File::open(rt, file)?.take(LONGEST).read_to_end(&mut bytes)?;
+    }
+    Ok(bytes)
 }
 
 /// Shows a bad line of a scenario.
@@ -96,16 +104,38 @@ fn explain_bad<R: Files + AllocGlobal + Eprint>(
     line: u32,
     kind: Kind,
 ) -> io::Result<()> {
-    let bytes = fs::read(rt, file)?;
+    let bytes = bytes_again(rt, file)?;
     let text = mistake(rt.alloc(), line_at(bytes.as_slice(), line), kind)?;
     eprintln!(rt; "{file}:{line}: {text}")
 }
 
 /// Shows a line that is not built.
 fn explain_line<R: Files + AllocGlobal + Eprint>(rt: &R, file: &str, line: u32) -> io::Result<()> {
-    let bytes = fs::read(rt, file)?;
-    let found = whole(line_at(bytes.as_slice(), line));
+    let bytes = bytes_again(rt, file)?;
+    let found = shown(rt.alloc(), line_at(bytes.as_slice(), line))?;
     eprintln!(rt; "{file}:{line}: this is not built yet: '{found}' (built are {BUILT})")
+}
+
+/// Why a file could not be read, as far as it can be seen now.
+fn reason<R: Files>(rt: &R, file: &str) -> &'static str {
+    match fs::metadata(rt, file) {
+        Err(e) => match e.kind() {
+            io::ErrorKind::NotFound => "it is not there",
+            io::ErrorKind::PermissionDenied => "there is no permission",
+            _ => "it cannot be looked at",
+        },
+        Ok(data) => {
+            if data.is_dir() {
+                "it is a folder"
+            } else if data.len() > LONGEST {
+                "it is too long"
+            } else if File::open(rt, file).is_err() {
+                "there is no permission"
+            } else {
+                "reading failed"
+            }
+        }
+    }
 }
 
 /// The scenario's file among the words.
@@ -134,7 +164,10 @@ pub fn explain<R: Files + AllocGlobal + Eprint>(
         Status::NotBuilt { line } => explain_line(rt, file, *line),
         Status::StoreFault { file } => {
             let name = file.as_str();
-            eprintln!(rt; "{name}: cannot be read (a file of at most 268435456 bytes was expected)")
+            let why = reason(rt, name);
+            eprintln!(rt;
+                "{name}: cannot be read: {why} (a file of at most {LONGEST} bytes was expected)"
+            )
         }
         Status::SinkFault => eprintln!(rt; "standard output did not take the whole history"),
         Status::Memory => eprintln!(rt; "memory ran out, and nothing was written"),

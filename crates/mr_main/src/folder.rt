@@ -9,7 +9,7 @@ use std::rt::Files;
 use std::{fs, io};
 
 /// The greatest length of a file, in bytes: a longer one is a failed read.
-const LONGEST: u64 = 268_435_456;
+pub const LONGEST: u64 = 268_435_456;
 
 /// The files of the folder in which the program was called. It tells nothing of what they hold.
 #[derive(Drop)]

@@ -121,31 +121,31 @@ fn places(line: &[u8]) -> &'static [Place] {
 }
 
 /// The first bad number of a line, and its range. Where all that stand alone are good it is that behind an `@`.
-pub fn bad_number(line: &[u8]) -> (&str, &'static str) {
+pub fn bad_number(line: &[u8]) -> (&[u8], &'static str) {
     for place in places(line) {
         let good = match number_of(word_at(line, place.index), place.most) {
             Some(n) => place.least <= n,
             None => false,
         };
         if !good {
-            return (text_at(line, place.index), place.range);
+            return (word_at(line, place.index), place.range);
         }
     }
-    (text_at(line, 5), "@0 to @4294967295")
+    (word_at(line, 5), "@0 to @4294967295")
 }
 
 /// The first bad address of a line.
-pub fn bad_address(line: &[u8]) -> &str {
+pub fn bad_address(line: &[u8]) -> &[u8] {
     if text_at(line, 0) == "device" {
-        return text_at(line, 2);
+        return word_at(line, 2);
     }
     if text_at(line, 2) == "addvif" {
-        return text_at(line, 5);
+        return word_at(line, 5);
     }
     if address_of(word_at(line, 3)).is_none() {
-        text_at(line, 3)
+        word_at(line, 3)
     } else {
-        text_at(line, 4)
+        word_at(line, 4)
     }
 }
 
@@ -161,30 +161,30 @@ fn vif_of(item: &[u8]) -> Option<u32> {
 }
 
 /// The first `V:T` of a line that is malformed or repeats its vif.
-pub fn bad_threshold(line: &[u8]) -> &str {
+pub fn bad_threshold(line: &[u8]) -> &[u8] {
     let mut seen = 0u32;
     for index in 6..70usize {
         let Some(vif) = vif_of(word_at(line, index)) else {
-            return text_at(line, index);
+            return word_at(line, index);
         };
         let bit = 1u32.checked_shl(vif).unwrap_or(0);
         if seen & bit != 0 {
-            return text_at(line, index);
+            return word_at(line, index);
         }
         seen |= bit;
     }
-    ""
+    &[]
 }
 
 /// The first bad file of a line, or the ninth configuration.
-pub fn bad_file(line: &[u8]) -> &str {
+pub fn bad_file(line: &[u8]) -> &[u8] {
     if text_at(line, 0) == "lane" {
-        return text_at(line, 4);
+        return word_at(line, 4);
     }
     for index in 1..9usize {
         if !is_file(word_at(line, index)) {
-            return text_at(line, index);
+            return word_at(line, index);
         }
     }
-    text_at(line, 9)
+    word_at(line, 9)
 }

@@ -7,6 +7,7 @@ mod explain;
 mod folder;
 mod form;
 mod found;
+mod shown;
 mod standard;
 #[cfg(test)]
 mod tests;
@@ -23,7 +24,7 @@ use std::sync::Wait;
 use std::thread::Threads;
 use std::{env, io};
 
-/// The words after the program's name.
+/// The words after the program's name. One that is no UTF-8 is an error of the kind InvalidData.
 fn words(rt: &(impl Env + AllocGlobal)) -> io::Result<Vec<String>> {
     let mut words = Vec::new(rt.alloc());
     for word in env::args(rt)?.skip(1) {
@@ -56,9 +57,36 @@ fn run_here<R: Files + AllocGlobal + Print + Wait + Threads + Sync>(
     ))
 }
 
-fn main(rt: HostRuntime) -> io::Result<ExitCode> {
-    let words = words(&rt)?;
-    let status = run_here(&rt, words.as_slice())?;
-    explain(&rt, words.as_slice(), &status)?;
-    Ok(ExitCode::from(status.number()))
+/// The status of a run that could not begin: words that are no text are no form, and else memory ran out.
+fn status_of(e: &io::Error) -> Status {
+    if e.kind() == io::ErrorKind::InvalidData {
+        Status::Usage
+    } else {
+        Status::Memory
+    }
+}
+
+/// Runs the words and tells what their status means. What cannot be told changes no status.
+fn run_and_tell<R: Files + AllocGlobal + Print + Eprint + Wait + Threads + Sync>(
+    rt: &R,
+    words: &[String],
+) -> Status {
+    let status = match run_here(rt, words) {
+        Ok(status) => status,
+        Err(e) => status_of(&e),
+    };
+    let _ = explain(rt, words, &status);
+    status
+}
+
+fn main(rt: HostRuntime) -> ExitCode {
+    let status = match words(&rt) {
+        Ok(words) => run_and_tell(&rt, words.as_slice()),
+        Err(e) => {
+            let status = status_of(&e);
+            let _ = explain(&rt, &[], &status);
+            status
+        }
+    };
+    ExitCode::from(status.number())
 }

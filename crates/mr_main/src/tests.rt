@@ -93,3 +93,19 @@ fn names_and_limits(rt: HostRuntime) -> Result<(), Fail> {
     );
     Ok(())
 }
+
+#[test]
+fn words_are_escaped_and_cut(rt: HostRuntime) -> Result<(), Fail> {
+    let line = b"daemon 1 pim \x1b[31m\xff".as_slice();
+    assert_eq!(rt;
+        shown(&rt, line, Kind::Number)?.as_str(),
+        "bad number '\\x1b[31m\\xff' (0 to 4294967295)"
+    );
+    let line =
+        b"daemon 1 pim 0000000000111111111122222222223333333333444444444455555555556".as_slice();
+    assert_eq!(rt;
+        shown(&rt, line, Kind::Number)?.as_str(),
+        "bad number '000000000011111111112222222222333333333344444444445555555555..' (0 to 4294967295)"
+    );
+    Ok(())
+}
