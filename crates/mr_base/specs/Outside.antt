@@ -3,16 +3,15 @@
 use Rattle.std.specs.Prelude.{ℕ, ◌-◌, ◌^◌, ◌<◌, ◌≡◌, ◌≢◌, ◌⊎◌, Bool, true, false, Option, Some, None, List, [], ◌∷◌, ◌++◌, take, Result, Ok, Err, IfSome}
 use Rattle.mr_base.specs.declared.read_error.ReadError.{ReadError}
 use Rattle.mr_base.specs.declared.read_error.ReadError.TheVariants as read_error
+use Rattle.mr_base.specs.declared.store_call.StoreCall.{StoreCall}
 
 -- The count of faults rose in a call: it is greater after it, or stands at its highest value.
 abbrev pub Rose : ℕ → ℕ → Type 0
 Rose old new = (old < new) ⊎ (new ≡ 2 ^ 64 - 1)
 
 -- What a store keeps of its last call: a read or a write, the name, and whether it failed.
-pub record LastCall : Type 0 where
-  pub is_read : Bool
-  pub name : List ℕ
-  pub failed : Bool
+abbrev pub LastCall : Type 0
+LastCall = StoreCall
 
 -- what a store keeps before its first call
 abbrev pub no_call : LastCall

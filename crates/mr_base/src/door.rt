@@ -27,6 +27,7 @@ pub trait Door {
         ensures kept { given_back self.new ≡ given_back self.old }
         ensures out { is_out self.new ≡ gave_link result }
         ensures count { faults self.old ≤ faults self.new }
+        ensures good { IfOk result (λ _. faults self.new ≡ faults self.old) }
         ensures fault { OnErr result (Rose (faults self.old) (faults self.new)) };
 
     /// Takes back the link that is out.
@@ -35,5 +36,5 @@ pub trait Door {
         ensures added { Takes (given_back self.old) (link ∷ []) (given_back self.new) }
         ensures kept { to_come self.new ≡ to_come self.old }
         ensures out { is_out self.new ≡ false }
-        ensures count { faults self.old ≤ faults self.new };
+        ensures count { faults self.new ≡ faults self.old };
 }

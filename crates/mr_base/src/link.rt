@@ -24,6 +24,7 @@ pub trait Link {
             → (space.old ≡ []) ⊎ IfSome (to_come self.old) (λ bytes. bytes ≡ []) }
         ensures kept { taken self.new ≡ taken self.old }
         ensures count { faults self.old ≤ faults self.new }
+        ensures good { IfOk result (λ _. faults self.new ≡ faults self.old) }
         ensures fault { OnErr result (Rose (faults self.old) (faults self.new)) };
 
     /// Appends all bytes to those taken. After `Failed` a prefix of them was appended.
@@ -32,5 +33,6 @@ pub trait Link {
         ensures prefix { OnErr result (TakesPrefix (taken self.old) bytes.now (taken self.new)) }
         ensures kept { to_come self.new ≡ to_come self.old }
         ensures count { faults self.old ≤ faults self.new }
+        ensures good { OnOk result (faults self.new ≡ faults self.old) }
         ensures fault { OnErr result (Rose (faults self.old) (faults self.new)) };
 }

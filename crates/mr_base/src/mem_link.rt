@@ -81,6 +81,8 @@ impl Link for MemLink {
             (⟦<MemLink as Link>⟧.taken self.new ≡ ⟦<MemLink as Link>⟧.taken self.old) }
         ensures kept { ⟦<MemLink as Link>⟧.to_come self.new ≡ ⟦<MemLink as Link>⟧.to_come self.old }
         ensures count { ⟦<MemLink as Link>⟧.faults self.old ≤ ⟦<MemLink as Link>⟧.faults self.new }
+        ensures good { OnOk result
+            (⟦<MemLink as Link>⟧.faults self.new ≡ ⟦<MemLink as Link>⟧.faults self.old) }
         ensures fault { OnErr result
             (Rose (⟦<MemLink as Link>⟧.faults self.old) (⟦<MemLink as Link>⟧.faults self.new)) }
     {

@@ -1,11 +1,14 @@
-ghost use Rattle.std.specs.Prelude.{◌≡◌, ◌≢◌, ◌≤◌, true, false, Some, None, IsNone, IfSome, MatchOption, OnOk, OnErr, AllPairs, [], length};
-ghost use Rattle.mr_base.specs.Outside.{Rose, no_call, is_failed, HasFile, AllStay, OthersStay};
-ghost use Rattle.mr_base.specs.MemStores.{bytes_of, IsPlaceOf};
+ghost use Rattle.std.specs.Prelude.{◌≡◌, ◌≢◌, ◌≤◌, ◌+◌, ◌-◌, ◌^◌, ◌||◌, min, true, false, Some, None, IsNone, is_none, IfSome, IfOk, IsErrOf, MatchOption, OnOk, OnErr, AllPairs, [], ◌∷◌, ◌++◌, length};
+ghost use Rattle.mr_base.specs.Outside.{Rose, no_call, is_failed, is_failed_read, HasFile, AllStay, OthersStay};
+ghost use Rattle.mr_base.specs.MemStores.{bytes_of, is_to_fail, IsPlaceOf};
+ghost use Rattle.mr_base.specs.declared.read_error.ReadError.TheVariants as read_error;
 
 use crate::file_name::FileName;
+use crate::log::Log;
 use crate::numbers::Failed;
 use crate::read_error::ReadError;
 use crate::store::Store;
+use crate::store_call::StoreCall;
 use std::alloc::{AllocError, Global};
 
 /// A store in memory, which tells.
@@ -13,37 +16,39 @@ use std::alloc::{AllocError, Global};
 pub struct MemStore {
     alloc: Global,
     files: Vec<(FileName, Vec<u8>)>,
+    /// The numbers, from 1, of the calls that are to fail.
+    fails: Vec<u64>,
+    /// How many calls were made; it stops at its highest value.
+    made: u64,
     faults: u64,
-    last: Call,
-}
-
-/// What a store keeps of its last call.
-#[derive(Drop)]
-struct Call {
-    is_read: bool,
-    name: FileName,
-    failed: bool,
+    last: StoreCall,
+    calls: Log<StoreCall>,
 }
 
 impl MemStore {
     /// A store of these files, whose names differ. `fails` has the numbers, from 1, of the calls that
-    /// are to fail; for now it has to be empty.
+    /// are to fail.
     pub fn with(alloc: Global, files: Vec<(FileName, Vec<u8>)>, fails: Vec<u64>) -> Self
         requires differ { AllPairs (λ a b. a.0 ≢ b.0) files.items }
-        requires no_fails { fails.items ≡ [] }
         ensures told { ⟦<MemStore as Store>⟧.told result ≡ Some (bytes_of files.items) }
+        ensures fails { result.fails.items ≡ fails.items }
+        ensures made { result.made ≡ 0 }
         ensures faults { ⟦<MemStore as Store>⟧.faults result ≡ 0 }
         ensures last { ⟦<MemStore as Store>⟧.last result ≡ no_call }
+        ensures calls { ⟦<MemStore as Store>⟧.calls result ≡ [] }
     {
         MemStore {
             alloc,
             files,
+            fails,
+            made: 0,
             faults: 0,
-            last: Call {
+            last: StoreCall {
                 is_read: true,
                 name: FileName::new(""),
                 failed: false,
             },
+            calls: Log::new(),
         }
     }
 
@@ -83,7 +88,10 @@ impl MemStore {
         ensures others { OthersStay name.now
             (⟦<MemStore as Store>⟧.told self.old) (⟦<MemStore as Store>⟧.told self.new) }
         ensures none { OnErr result (self.new.files.items ≡ self.old.files.items) }
+        ensures fails { self.new.fails ≡ self.old.fails }
+        ensures made { self.new.made ≡ self.old.made }
         ensures faults { self.new.faults ≡ self.old.faults }
+        ensures calls { self.new.calls.items ≡ self.old.calls.items }
     {
         let copy = Vec::from_slice(self.alloc, bytes)?;
         let older = self.place(name);
@@ -95,23 +103,38 @@ impl MemStore {
         Ok(())
     }
 
+    /// Whether the next call is one that is to fail.
+    fn is_next_to_fail(&self) -> bool
+        ensures { result ≡ is_to_fail self.now.fails.items self.now.made }
+    {
+        let number = self.made.saturating_add(1);
+        self.fails.iter().any(|n| *n == number)
+    }
+
     /// Keeps the facts of a call, and counts it where it failed.
     fn keep(&mut self, is_read: bool, name: &str, failed: bool)
         requires { length name.now ≤ 255 }
         ensures files { self.new.files ≡ self.old.files }
+        ensures fails { self.new.fails ≡ self.old.fails }
+        ensures made { self.new.made ≡ min (self.old.made + 1) (2 ^ 64 - 1) }
         ensures last { self.new.last
             ≡ record { is_read = is_read; name = name.now; failed = failed } }
+        ensures calls { self.new.calls.items ≡ self.old.calls.items
+            ++ record { is_read = is_read; name = name.now; failed = failed } ∷ [] }
         ensures count { self.old.faults ≤ self.new.faults }
+        ensures good { failed ≡ false → self.new.faults ≡ self.old.faults }
         ensures fault { failed ≡ true → Rose self.old.faults self.new.faults }
     {
         if failed {
             self.faults = self.faults.saturating_add(1);
         }
-        self.last = Call {
+        self.made = self.made.saturating_add(1);
+        self.last = StoreCall {
             is_read,
             name: FileName::new(name),
             failed,
         };
+        self.calls = self.calls.with(&self.last);
     }
 }
 
@@ -123,10 +146,41 @@ impl Store for MemStore {
 
     ghost faults = { λ s. s.faults };
 
-    ghost last = { λ s.
-        record { is_read = s.last.is_read; name = s.last.name; failed = s.last.failed } };
+    ghost last = { λ s. s.last };
 
-    fn read(&mut self, alloc: Global, name: &str) -> Result<Vec<u8>, ReadError> {
+    ghost calls = { λ s. s.calls.items };
+
+    /// The bytes of a file. It fails exactly where no file has the name or the call is one that is to
+    /// fail.
+    fn read(&mut self, alloc: Global, name: &str) -> Result<Vec<u8>, ReadError>
+        requires { length name.now ≤ 255 }
+        ensures bytes { IfOk result (λ v.
+            HasFile (⟦<MemStore as Store>⟧.told self.old) name.now v.items) }
+        ensures failed { is_failed_read result
+            ≡ is_to_fail self.old.fails.items self.old.made
+            || is_none (bytes_of self.old.files.items name.now) }
+        ensures absent { IfSome (⟦<MemStore as Store>⟧.told self.old) (λ files.
+            files name.now ≡ None → IsErrOf result read_error.Failed) }
+        ensures stays { AllStay (⟦<MemStore as Store>⟧.told self.old)
+            (⟦<MemStore as Store>⟧.told self.new) }
+        ensures fails { self.new.fails ≡ self.old.fails }
+        ensures made { self.new.made ≡ min (self.old.made + 1) (2 ^ 64 - 1) }
+        ensures count { ⟦<MemStore as Store>⟧.faults self.old
+            ≤ ⟦<MemStore as Store>⟧.faults self.new }
+        ensures fault { IsErrOf result read_error.Failed
+            → Rose (⟦<MemStore as Store>⟧.faults self.old)
+            (⟦<MemStore as Store>⟧.faults self.new) }
+        ensures good { is_failed_read result ≡ false
+            → ⟦<MemStore as Store>⟧.faults self.new ≡ ⟦<MemStore as Store>⟧.faults self.old }
+        ensures facts { ⟦<MemStore as Store>⟧.last self.new
+            ≡ record { is_read = true; name = name.now; failed = is_failed_read result } }
+        ensures called { ⟦<MemStore as Store>⟧.calls self.new ≡ ⟦<MemStore as Store>⟧.calls self.old
+            ++ record { is_read = true; name = name.now; failed = is_failed_read result } ∷ [] }
+    {
+        if self.is_next_to_fail() {
+            self.keep(true, name, true);
+            return Err(ReadError::Failed);
+        }
         let Some(bytes) = self.bytes(name) else {
             self.keep(true, name, true);
             return Err(ReadError::Failed);
@@ -143,22 +197,35 @@ impl Store for MemStore {
         }
     }
 
-    /// Sets the bytes of a file, or changes no file where memory ran out.
+    /// Sets the bytes of a file, or changes no file where memory ran out or the call is one that is to
+    /// fail.
     fn write(&mut self, name: &str, bytes: &[u8]) -> Result<(), Failed>
         requires { length name.now ≤ 255 }
         ensures bytes { OnOk result
             (HasFile (⟦<MemStore as Store>⟧.told self.new) name.now bytes.now) }
+        ensures failed { is_to_fail self.old.fails.items self.old.made ≡ true
+            → is_failed result ≡ true }
         ensures others { OthersStay name.now
             (⟦<MemStore as Store>⟧.told self.old) (⟦<MemStore as Store>⟧.told self.new) }
         ensures none { OnErr result
             (AllStay (⟦<MemStore as Store>⟧.told self.old) (⟦<MemStore as Store>⟧.told self.new)) }
+        ensures fails { self.new.fails ≡ self.old.fails }
+        ensures made { self.new.made ≡ min (self.old.made + 1) (2 ^ 64 - 1) }
         ensures count { ⟦<MemStore as Store>⟧.faults self.old
             ≤ ⟦<MemStore as Store>⟧.faults self.new }
+        ensures good { OnOk result
+            (⟦<MemStore as Store>⟧.faults self.new ≡ ⟦<MemStore as Store>⟧.faults self.old) }
         ensures fault { OnErr result
             (Rose (⟦<MemStore as Store>⟧.faults self.old) (⟦<MemStore as Store>⟧.faults self.new)) }
         ensures facts { ⟦<MemStore as Store>⟧.last self.new
             ≡ record { is_read = false; name = name.now; failed = is_failed result } }
+        ensures called { ⟦<MemStore as Store>⟧.calls self.new ≡ ⟦<MemStore as Store>⟧.calls self.old
+            ++ record { is_read = false; name = name.now; failed = is_failed result } ∷ [] }
     {
+        if self.is_next_to_fail() {
+            self.keep(false, name, true);
+            return Err(Failed);
+        }
         match self.set(name, bytes) {
             Ok(()) => {
                 self.keep(false, name, false);

@@ -2,7 +2,7 @@ use crate::numbers::Failed;
 
 /// A place that takes bytes, as standard output.
 pub trait Sink {
-    ghost use Rattle.std.specs.Prelude.{◌≤◌, ℕ, Option, List, OnOk, OnErr};
+    ghost use Rattle.std.specs.Prelude.{◌≡◌, ◌≤◌, ℕ, Option, List, OnOk, OnErr};
     ghost use Rattle.mr_base.specs.Outside.{Rose, Takes, TakesPrefix};
 
     // The bytes taken so far, if the sink tells.
@@ -16,5 +16,6 @@ pub trait Sink {
         ensures all { OnOk result (Takes (taken self.old) bytes.now (taken self.new)) }
         ensures prefix { OnErr result (TakesPrefix (taken self.old) bytes.now (taken self.new)) }
         ensures count { faults self.old ≤ faults self.new }
+        ensures good { OnOk result (faults self.new ≡ faults self.old) }
         ensures fault { OnErr result (Rose (faults self.old) (faults self.new)) };
 }

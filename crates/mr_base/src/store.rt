@@ -4,8 +4,9 @@ use std::alloc::Global;
 
 /// A place of files, each known by a name of 1 to 255 bytes.
 pub trait Store {
-    ghost use Rattle.std.specs.Prelude.{◌≡◌, ◌≤◌, ◌^◌, ℕ, Option, None, IfOk, OnOk, OnErr, IfSome, IsErrOf, length, true, false};
+    ghost use Rattle.std.specs.Prelude.{◌≡◌, ◌≤◌, ◌^◌, ℕ, Option, None, IfOk, OnOk, OnErr, IfSome, IsErrOf, List, [], ◌∷◌, ◌++◌, length, true, false};
     ghost use Rattle.mr_base.specs.Outside.{Files, LastCall, Rose, AllStay, OthersStay, HasFile, is_failed, is_failed_read};
+    ghost use Rattle.mr_base.specs.declared.store_call.StoreCall.{StoreCall};
     ghost use Rattle.mr_base.specs.declared.read_error.ReadError.TheVariants as read_error;
 
     // The bytes of each file by name, if the store tells.
@@ -16,6 +17,9 @@ pub trait Store {
 
     // The last call: a read or a write, of which name, and whether it answered `Failed`.
     ghost last: { Self → LastCall };
+
+    // All calls so far, for clauses alone: objects keep them in a `Log`, which takes no memory.
+    ghost calls: { Self → List StoreCall };
 
     /// The bytes of a file. A name that is not there is a failed read.
     fn read(&mut self, alloc: Global, name: &str) -> Result<Vec<u8>, ReadError>
@@ -28,8 +32,11 @@ pub trait Store {
         ensures count { faults self.old ≤ faults self.new }
         ensures fault { IsErrOf result read_error.Failed
             → Rose (faults self.old) (faults self.new) }
+        ensures good { is_failed_read result ≡ false → faults self.new ≡ faults self.old }
         ensures facts { last self.new
-            ≡ record { is_read = true; name = name.now; failed = is_failed_read result } };
+            ≡ record { is_read = true; name = name.now; failed = is_failed_read result } }
+        ensures called { calls self.new ≡ calls self.old
+            ++ record { is_read = true; name = name.now; failed = is_failed_read result } ∷ [] };
 
     /// Sets the bytes of a file, which may be new. After `Failed` its bytes may be anything.
     fn write(&mut self, name: &str, bytes: &[u8]) -> Result<(), Failed>
@@ -39,6 +46,9 @@ pub trait Store {
         ensures others { OthersStay name.now (told self.old) (told self.new) }
         ensures count { faults self.old ≤ faults self.new }
         ensures fault { OnErr result (Rose (faults self.old) (faults self.new)) }
+        ensures good { OnOk result (faults self.new ≡ faults self.old) }
         ensures facts { last self.new
-            ≡ record { is_read = false; name = name.now; failed = is_failed result } };
+            ≡ record { is_read = false; name = name.now; failed = is_failed result } }
+        ensures called { calls self.new ≡ calls self.old
+            ++ record { is_read = false; name = name.now; failed = is_failed result } ∷ [] };
 }

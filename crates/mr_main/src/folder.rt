@@ -1,7 +1,7 @@
-ghost use Rattle.std.specs.Prelude.{◌≡◌, ◌≤◌, true, false, length};
+ghost use Rattle.std.specs.Prelude.{◌≡◌, ◌≤◌, [], ◌∷◌, ◌++◌, true, false, length};
 ghost use Rattle.mr_base.specs.Outside.{Rose};
 
-use mr_base::{Failed, FileName, ReadError, Store};
+use mr_base::{Failed, FileName, Log, ReadError, Store, StoreCall};
 use std::alloc::Global;
 use std::fs::File;
 use std::io::Read;
@@ -16,9 +16,8 @@ pub const LONGEST: u64 = 268_435_456;
 pub struct Folder<'a, R: Files + AllocGlobal> {
     rt: &'a R,
     faults: u64,
-    is_read: bool,
-    name: FileName,
-    failed: bool,
+    last: StoreCall,
+    calls: Log<StoreCall>,
 }
 
 impl<'a, R: Files + AllocGlobal> Folder<'a, R> {
@@ -26,27 +25,35 @@ impl<'a, R: Files + AllocGlobal> Folder<'a, R> {
         Folder {
             rt,
             faults: 0,
-            is_read: true,
-            name: FileName::new(""),
-            failed: false,
+            last: StoreCall {
+                is_read: true,
+                name: FileName::new(""),
+                failed: false,
+            },
+            calls: Log::new(),
         }
     }
 
     /// Keeps the facts of a call, and counts it where it failed.
     fn keep(&mut self, is_read: bool, name: &str, failed: bool)
         requires { length name.now ≤ 255 }
-        ensures kind { self.new.is_read ≡ is_read }
-        ensures name { self.new.name ≡ name.now }
-        ensures failed { self.new.failed ≡ failed }
+        ensures last { self.new.last
+            ≡ record { is_read = is_read; name = name.now; failed = failed } }
+        ensures calls { self.new.calls.items ≡ self.old.calls.items
+            ++ record { is_read = is_read; name = name.now; failed = failed } ∷ [] }
         ensures count { self.old.faults ≤ self.new.faults }
+        ensures good { failed ≡ false → self.new.faults ≡ self.old.faults }
         ensures fault { failed ≡ true → Rose self.old.faults self.new.faults }
     {
         if failed {
             self.faults = self.faults.saturating_add(1);
         }
-        self.is_read = is_read;
-        self.name = FileName::new(name);
-        self.failed = failed;
+        self.last = StoreCall {
+            is_read,
+            name: FileName::new(name),
+            failed,
+        };
+        self.calls = self.calls.with(&self.last);
     }
 
     /// The bytes of a file, read to its end or to one more than the greatest length.
@@ -65,7 +72,9 @@ impl<'a, R: Files + AllocGlobal> Store for Folder<'a, R> {
 
     ghost faults = { λ s. s.faults };
 
-    ghost last = { λ s. record { is_read = s.is_read; name = s.name; failed = s.failed } };
+    ghost last = { λ s. s.last };
+
+    ghost calls = { λ s. s.calls.items };
 
     fn read(&mut self, alloc: Global, name: &str) -> Result<Vec<u8>, ReadError> {
         match self.bytes_of(alloc, name) {

@@ -1,6 +1,9 @@
+ghost use Rattle.std.specs.Prelude.{◌≡◌, ◌≤◌, ◌∷◌, ◌++◌, [], false, length};
+
 use super::*;
 use mr_base::{
-    Failed, FileName, ListClock, MemDoor, MemSink, MemStore, OpenGate, ReadError, Sink, Store,
+    Failed, FileName, ListClock, Log, MemDoor, MemSink, MemStore, OpenGate, ReadError, Sink, Store,
+    StoreCall,
 };
 use std::alloc::{AllocError, Global};
 use std::process::Abort;
@@ -391,8 +394,26 @@ fn sink_asked(rt: HostRuntime) -> Result<(), Fail> {
 struct Same {
     /// How often it was read.
     asked: u64,
-    is_read: bool,
-    name: FileName,
+    last: StoreCall,
+    calls: Log<StoreCall>,
+}
+
+impl Same {
+    /// Keeps a call, which did not fail.
+    fn keep(&mut self, is_read: bool, name: &str)
+        requires { length name.now ≤ 255 }
+        ensures last { self.new.last
+            ≡ record { is_read = is_read; name = name.now; failed = false } }
+        ensures calls { self.new.calls.items ≡ self.old.calls.items
+            ++ record { is_read = is_read; name = name.now; failed = false } ∷ [] }
+    {
+        self.last = StoreCall {
+            is_read,
+            name: FileName::new(name),
+            failed: false,
+        };
+        self.calls = self.calls.with(&self.last);
+    }
 }
 
 impl Store for Same {
@@ -402,12 +423,13 @@ impl Store for Same {
 
     ghost faults = { λ s. 0 };
 
-    ghost last = { λ s. record { is_read = s.is_read; name = s.name; failed = false } };
+    ghost last = { λ s. s.last };
+
+    ghost calls = { λ s. s.calls.items };
 
     fn read(&mut self, alloc: Global, name: &str) -> Result<Vec<u8>, ReadError> {
         self.asked = self.asked.saturating_add(1);
-        self.is_read = true;
-        self.name = FileName::new(name);
+        self.keep(true, name);
         match Vec::from_slice(alloc, b"scenario 1\n") {
             Ok(bytes) => Ok(bytes),
             Err(_) => Err(ReadError::Memory),
@@ -415,8 +437,7 @@ impl Store for Same {
     }
 
     fn write(&mut self, name: &str, bytes: &[u8]) -> Result<(), Failed> {
-        self.is_read = false;
-        self.name = FileName::new(name);
+        self.keep(false, name);
         Ok(())
     }
 }
@@ -426,8 +447,12 @@ fn file_read_once(rt: HostRuntime) -> Result<(), Fail> {
     for (words, number, asked) in [("replay g", 0, 1), ("replay", 1, 0)] {
         let mut store = Same {
             asked: 0,
-            is_read: true,
-            name: FileName::new(""),
+            last: StoreCall {
+                is_read: true,
+                name: FileName::new(""),
+                failed: false,
+            },
+            calls: Log::new(),
         };
         let mut out = MemSink::with(rt.alloc(), Vec::new(rt.alloc()));
         let status = ran(&rt, words, &mut store, &mut out)?;
@@ -437,8 +462,8 @@ fn file_read_once(rt: HostRuntime) -> Result<(), Fail> {
             "at {words}"
         );
         // The last call is a read of the file, or none was made.
-        assert!(rt; store.is_read);
-        assert_eq!(rt; store.name.as_str(), if asked == 0 { "" } else { "g" });
+        assert!(rt; store.last.is_read);
+        assert_eq!(rt; store.last.name.as_str(), if asked == 0 { "" } else { "g" });
     }
     Ok(())
 }
