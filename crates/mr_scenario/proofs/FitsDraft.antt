@@ -329,15 +329,15 @@ pub line_keeps : (n : ℕ) (d : Draft) (ws : List Word) → Keeps d → Kept (li
 line_keeps n d [] k = k
 line_keeps n d (w ∷ ws) k = ok_if d.begun _ _ Keeps (in_keeps n d d.current w ws k refl) (header_keeps d (w ∷ ws) k)
 
-at_keeps : (n : ℕ) (r : Result Draft Kind) → Kept r → IfOk (at_line n r) Keeps
-at_keeps n (Ok d) k = k
-at_keeps n (Err e) k = tt
+at_keeps : (n : ℕ) (l : List ℕ) (r : Result Draft Kind) → Kept r → IfOk (at_line n l r) Keeps
+at_keeps n l (Ok d) k = k
+at_keeps n l (Err e) k = tt
 
 pub lines_keep : (n : ℕ) (d : Draft) (ls : List (List ℕ)) → Keeps d → IfOk (draft_from n d ls) Keeps
 lines_keep n d [] k = k
 lines_keep n d (l ∷ ls) k =
-    ok_then (at_line n (line_of n d (words_of (without_return l)))) (λ t. draft_from (next_line n) t ls) Keeps Keeps
-    (at_keeps n (line_of n d (words_of (without_return l))) (line_keeps n d (words_of (without_return l)) k))
+    ok_then (at_line n (without_return l) (line_of n d (words_of (without_return l)))) (λ t. draft_from (next_line n) t ls) Keeps Keeps
+    (at_keeps n (without_return l) (line_of n d (words_of (without_return l))) (line_keeps n d (words_of (without_return l)) k))
     (λ t kept. lines_keep (next_line n) t ls kept)
 
 whole_fits : (d : Draft) → Keeps d → IfOk (whole d) Fits

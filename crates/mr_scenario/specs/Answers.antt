@@ -21,5 +21,5 @@ Steps (Err stop.Memory) new value = Unit {0}
 -- the same for a whole scenario
 abbrev pub Gives : {A B : Type 0} → (A → B) → Result A ScenarioError → Result B ScenarioError → Type 0
 Gives view (Ok x) value = value ≡ Ok (view x)
-Gives view (Err (error.Bad line k)) value = value ≡ Err (error.Bad line k)
+Gives view (Err (error.Bad line k text)) value = value ≡ Err (error.Bad line k text)
 Gives view (Err error.Memory) value = Unit {0}

@@ -1,5 +1,5 @@
 -- What the lines of a scenario spell: `scenario 1` first, then head lines in any order, then phases.
-use Rattle.std.specs.Prelude.{ℕ, ◌+◌, Bool, true, false, min, if◌then◌else◌, Option, Some, None, replicate, unwrap_or, Result, Ok, Err, List, [], ◌∷◌, length, map, bytes_eq, codes}
+use Rattle.std.specs.Prelude.{ℕ, ◌+◌, Bool, true, false, min, if◌then◌else◌, Option, Some, None, replicate, unwrap_or, Result, Ok, Err, List, [], ◌∷◌, length, map, take, bytes_eq, codes}
 use Rattle.mr_base.specs.declared.device.Device.{Device}
 use Rattle.mr_model.specs.declared.limits.Limits.{Limits}
 use Rattle.mr_scenario.specs.Counts.{Word}
@@ -15,6 +15,7 @@ use Rattle.mr_scenario.specs.declared.stop.Kind.{Kind}
 use Rattle.mr_scenario.specs.declared.stop.Kind.TheVariants as kind
 use Rattle.mr_scenario.specs.declared.stop.ScenarioError.{ScenarioError}
 use Rattle.mr_scenario.specs.declared.stop.ScenarioError.TheVariants as error
+use Rattle.mr_scenario.specs.declared.stop.TheConstants.{MOST_TEXT}
 use Rattle.mr_words.specs.Binds.{◌>>=◌}
 use Rattle.mr_words.specs.Words.{lines_of, without_return, words_of}
 
@@ -50,14 +51,17 @@ line_of n d (w ∷ ws) = if d.begun then line_in n d d.current w ws else header_
 abbrev pub next_line : ℕ → ℕ
 next_line n = min (n + 1) 4294967295
 
-abbrev pub at_line : {A : Type 0} → ℕ → Result A Kind → Result A ScenarioError
-at_line n (Ok x) = Ok x
-at_line n (Err k) = Err (error.Bad n k)
+-- what is wrong with line n carries the first bytes of the line
+abbrev pub at_line : {A : Type 0} → ℕ → List ℕ → Result A Kind → Result A ScenarioError
+at_line n l (Ok x) = Ok x
+at_line n l (Err k) = Err (error.Bad n k (take MOST_TEXT l))
 
 -- the draft after lines of which the first has number n, or the first bad line
 abbrev pub draft_from : ℕ → Draft → List (List ℕ) → Result Draft ScenarioError
 draft_from n d [] = Ok d
-draft_from n d (l ∷ ls) = at_line n (line_of n d (words_of (without_return l))) >>= λ t. draft_from (next_line n) t ls
+draft_from n d (l ∷ ls) =
+    at_line n (without_return l) (line_of n d (words_of (without_return l)))
+    >>= λ t. draft_from (next_line n) t ls
 
 abbrev pub empty_draft : Draft
 empty_draft = record { begun = false; entries = None; unresolved = None; controls = None; lanes = None; devices = []; daemons = []; sent = 0; phases = []; current = None }
@@ -87,7 +91,7 @@ abbrev pub whole : Draft → Result Scenario ScenarioError
 whole d =
     if d.begun
     then Ok (record { limits = limits_of d; devices = d.devices; lanes = lanes_of d; daemons = d.daemons; phases = phases_so_far d })
-    else Err (error.Bad 1 kind.Header)
+    else Err (error.Bad 1 kind.Header [])
 
 -- the scenario that bytes spell, or the first bad line and what is wrong with it
 abbrev pub spelled : List ℕ → Result Scenario ScenarioError

@@ -21,4 +21,4 @@ pub use boxed_name::BoxedName;
 pub use laws::spelled_fits;
 pub use reading::read;
 pub use scenario::{DaemonKind, Given, Item, Named, Phase, Scenario, Script, ScriptLine};
-pub use stop::{Kind, ScenarioError};
+pub use stop::{Kind, MOST_TEXT, ScenarioError};

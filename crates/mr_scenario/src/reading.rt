@@ -1,17 +1,18 @@
 //! A scenario is read from its bytes.
 
-ghost use Rattle.std.specs.Prelude.{◌≡◌, ◌≤◌, None, true, is_some, length, map, replicate, IfOk};
+ghost use Rattle.std.specs.Prelude.{◌≡◌, ◌≤◌, None, true, is_some, length, map, replicate, take, IfOk};
 ghost use Rattle.mr_scenario.specs.Answers.{Steps, Gives};
 ghost use Rattle.mr_scenario.specs.Fits.{Fits};
 ghost use Rattle.mr_scenario.specs.PhaseLines.{phases_so_far, phase_of};
 ghost use Rattle.mr_scenario.specs.Spelled.{head_line, phase_part, line_in, line_of, draft_from, empty_draft, is_admin_kind, address_only, limits_of, whole, spelled};
+ghost use Rattle.mr_scenario.specs.declared.stop.TheConstants.{MOST_TEXT};
 ghost use Rattle.mr_words.specs.Words.{lines_of, words_of};
 
 use crate::draft::Draft;
 use crate::head_lines::{daemon_line, device_line, header_line, lanes_line, limit_line, smc_line};
 use crate::phase_lines::{close_phase, lane_line, lanes_of, phase_line, script_line};
 use crate::scenario::{DaemonKind, Named, Scenario};
-use crate::stop::{Kind, ScenarioError, Stop};
+use crate::stop::{Kind, MOST_TEXT, ScenarioError, Stop};
 use mr_base::{Device, List};
 use mr_model::Limits;
 use mr_words::{next_word, split_line, trimmed};
@@ -105,6 +106,17 @@ fn line_of(alloc: Global, line: u32, draft: &mut Draft, words: &[u8]) -> Result<
     }
 }
 
+/// The first bytes of a line, as an error carries them.
+fn front_of(line: &[u8]) -> &[u8]
+    ensures { result.now ≡ take MOST_TEXT line.now }
+{
+    if line.len() > MOST_TEXT {
+        &line[..MOST_TEXT]
+    } else {
+        line
+    }
+}
+
 /// The draft of a scenario's lines.
 fn draft_of(alloc: Global, bytes: &[u8]) -> Result<Draft, ScenarioError>
     ensures { Gives (λ d. d) result (draft_from 1 empty_draft (lines_of bytes.now)) }
@@ -125,9 +137,13 @@ fn draft_of(alloc: Global, bytes: &[u8]) -> Result<Draft, ScenarioError>
     let mut rest = bytes;
     'lines: while !rest.is_empty() {
         let (text, after) = split_line(rest);
-        match line_of(alloc, line, &mut draft, trimmed(text)) {
+        let text = trimmed(text);
+        match line_of(alloc, line, &mut draft, text) {
             Ok(()) => {}
-            Err(Stop::Bad(kind)) => return Err(ScenarioError::Bad { line, kind }),
+            Err(Stop::Bad(kind)) => {
+                let text = List(Vec::from_slice(alloc, front_of(text))?);
+                return Err(ScenarioError::Bad { line, kind, text });
+            }
             Err(Stop::Memory) => return Err(ScenarioError::Memory),
         }
         line = line.saturating_add(1);
@@ -202,6 +218,7 @@ fn whole(alloc: Global, draft: Draft) -> Result<Scenario, ScenarioError>
         return Err(ScenarioError::Bad {
             line: 1,
             kind: Kind::Header,
+            text: List(Vec::new(alloc)),
         });
     }
     let mut draft = draft;
@@ -216,7 +233,8 @@ fn whole(alloc: Global, draft: Draft) -> Result<Scenario, ScenarioError>
     })
 }
 
-/// The scenario that bytes spell: `Bad` with the first bad line and what is wrong with it, or `Memory` where it runs out.
+/// The scenario that bytes spell: `Bad` with the first bad line, what is wrong with it and how the line
+/// begins, or `Memory` where it runs out.
 pub fn read(alloc: Global, bytes: &[u8]) -> Result<Scenario, ScenarioError>
     ensures spelled { Gives (λ s. s) result (spelled bytes.now) }
     ensures fits { IfOk result Fits }

@@ -5,6 +5,7 @@ ghost use Rattle.mr_scenario.specs.Kinds.{kind_number};
 ghost use Rattle.mr_scenario.specs.declared.stop.Stop.TheVariants as stop;
 ghost use Rattle.mr_scenario.specs.declared.stop.ScenarioError.TheVariants as error;
 
+use mr_base::List;
 use std::alloc::{AllocError, AllocFailed};
 
 /// What is wrong with a line: the first of these that holds, word by word from the left.
@@ -90,11 +91,19 @@ impl From<Kind> for Stop {
     }
 }
 
+/// How many bytes of a bad line an error carries, from its front.
+pub const MOST_TEXT: usize = 4_096;
+
 /// Why a scenario was not read.
-#[derive(Clone, Copy, Debug, PartialEq, Eq)]
+#[derive(Debug, Drop)]
 pub enum ScenarioError {
-    /// The first bad line, from 1, and what is wrong with it.
-    Bad { line: u32, kind: Kind },
+    /// The first bad line, from 1, what is wrong with it, and its first `MOST_TEXT` bytes without a
+    /// carriage return at its end. Where no line has words it is line 1, with no bytes.
+    Bad {
+        line: u32,
+        kind: Kind,
+        text: List<u8>,
+    },
     Memory,
 }
 

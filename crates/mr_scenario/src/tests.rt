@@ -293,7 +293,7 @@ const WHOLE_ROWS: &[u8] = b"\
 fn mistake(alloc: Global, text: &[u8]) -> Result<(u32, u8), Fail> {
     match read(alloc, text) {
         Ok(_) => Ok((0, 0)),
-        Err(ScenarioError::Bad { line, kind }) => Ok((line, kind.number())),
+        Err(ScenarioError::Bad { line, kind, .. }) => Ok((line, kind.number())),
         Err(ScenarioError::Memory) => Err(Fail::from("memory")),
     }
 }
