@@ -16,7 +16,7 @@ use Rattle.mr_words.specs.Binds.{◌>>=◌}
 
 -- the statuses by which a scenario's lines are refused
 abbrev IsRefusal : Status → Type 0
-IsRefusal (status.Scenario line k) = Unit {0}
+IsRefusal (status.Scenario line k text) = Unit {0}
 IsRefusal status.Memory = Unit {0}
 IsRefusal (status.NotBuilt line) = Unit {0}
 IsRefusal _ = ⊥
@@ -30,7 +30,7 @@ built_refused (Some n) t s e = subst IsRefusal (same_err (status.NotBuilt n) s e
 
 accepted_refused : (r : Result Scenario ScenarioError) (find : Scenario → Option ℕ) (s : Status) → (accepted r >>= λ t. if_built (find t) t) ≡ Err s → IsRefusal s
 accepted_refused (Ok t) find s e = built_refused (find t) t s e
-accepted_refused (Err (error.Bad line k)) find s e = subst IsRefusal (same_err (status.Scenario line k) s e) tt
+accepted_refused (Err (error.Bad line k text)) find s e = subst IsRefusal (same_err (status.Scenario line k text) s e) tt
 accepted_refused (Err error.Memory) find s e = subst IsRefusal (same_err status.Memory s e) tt
 
 refused : (bytes : List ℕ) (s : Status) → scenario_of bytes ≡ Err s → IsRefusal s
@@ -46,7 +46,7 @@ loads_from files file bytes (Err status.Memory) has gives ok = tt
 loads_from files file bytes (Err (status.StoreFault name)) has gives ok = absurd (refused bytes (status.StoreFault name) gives)
 loads_from files file bytes (Err status.Good) has gives ok = absurd (refused bytes status.Good gives)
 loads_from files file bytes (Err status.Usage) has gives ok = absurd (refused bytes status.Usage gives)
-loads_from files file bytes (Err (status.Scenario line k)) has gives ok = there files file bytes _ has gives
+loads_from files file bytes (Err (status.Scenario line k text)) has gives ok = there files file bytes _ has gives
 loads_from files file bytes (Err status.SinkFault) has gives ok = absurd (refused bytes status.SinkFault gives)
 loads_from files file bytes (Err status.ControlFull) has gives ok = absurd (refused bytes status.ControlFull gives)
 loads_from files file bytes (Err (status.NotBuilt line)) has gives ok = there files file bytes _ has gives

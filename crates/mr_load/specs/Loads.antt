@@ -40,7 +40,7 @@ abbrev pub LoadsFrom : Files → List ℕ → Result Loaded Status → Type 0
 LoadsFrom files file (Ok l) = (loaded files file ≡ Ok l.scenario) × IsLoaded files l
 LoadsFrom files file (Err status.Memory) = Unit {0}
 LoadsFrom files file (Err (status.StoreFault name)) = Contains (files_read files file) name
-LoadsFrom files file (Err (status.Scenario line k)) = loaded files file ≡ Err (status.Scenario line k)
+LoadsFrom files file (Err (status.Scenario line k text)) = loaded files file ≡ Err (status.Scenario line k text)
 LoadsFrom files file (Err (status.NotBuilt line)) = loaded files file ≡ Err (status.NotBuilt line)
 LoadsFrom files file (Err s) = ⊥
 

@@ -18,7 +18,7 @@ if_there file None = Err (status.StoreFault file)
 -- a bad line, by its kind
 abbrev pub accepted : Result Scenario ScenarioError → Result Scenario Status
 accepted (Ok s) = Ok s
-accepted (Err (error.Bad line k)) = Err (status.Scenario line k)
+accepted (Err (error.Bad line k text)) = Err (status.Scenario line k text)
 accepted (Err error.Memory) = Err status.Memory
 
 -- the first line whose form is not built, if there is one

@@ -116,7 +116,9 @@ fn load_bytes(alloc: Global, bytes: &[u8]) -> Result<Loaded, Status>
 {
     let scenario = match mr_scenario::read(alloc, bytes) {
         Ok(scenario) => scenario,
-        Err(ScenarioError::Bad { line, kind }) => return Err(Status::Scenario { line, kind }),
+        Err(ScenarioError::Bad { line, kind, text }) => {
+            return Err(Status::Scenario { line, kind, text });
+        }
         Err(ScenarioError::Memory) => return Err(Status::Memory),
     };
     if let Some(line) = first_unbuilt(bytes, &scenario) {

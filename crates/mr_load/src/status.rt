@@ -1,7 +1,7 @@
 ghost use Rattle.std.specs.Prelude.{◌≡◌};
 ghost use Rattle.mr_load.specs.Statuses.{number_of};
 
-use mr_base::FileName;
+use mr_base::{FileName, List};
 use mr_scenario::Kind;
 
 /// How a run ended.
@@ -11,10 +11,17 @@ pub enum Status {
     Good,
     /// The words are not `replay SCENARIO`, with a file word of 1 to 255 bytes that does not begin with `out-`.
     Usage,
-    /// The first bad line of the scenario, and what is wrong with it. Nothing was written.
-    Scenario { line: u32, kind: Kind },
+    /// The first bad line of the scenario, what is wrong with it, and its first bytes (at most
+    /// `MOST_TEXT` of mr_scenario). Nothing was written.
+    Scenario {
+        line: u32,
+        kind: Kind,
+        text: List<u8>,
+    },
     /// The file could not be read. Nothing was written.
-    StoreFault { file: FileName },
+    StoreFault {
+        file: FileName,
+    },
     /// The sink failed; it took a prefix of the history.
     SinkFault,
     /// Memory ran out. Nothing was written.
@@ -22,7 +29,9 @@ pub enum Status {
     /// The lines of the daemons are more than `limit control` allows. Nothing was written.
     ControlFull,
     /// A line of the scenario that is not built yet, by its form or by what its call comes to. Nothing was written.
-    NotBuilt { line: u32 },
+    NotBuilt {
+        line: u32,
+    },
 }
 
 impl Status {
