@@ -23,7 +23,7 @@ there_ok file None bytes e = absurd (cc)
 
 accepted_ok : (r : Result Scenario ScenarioError) (s : Scenario) → accepted r ≡ Ok s → r ≡ Ok s
 accepted_ok (Ok t) s e = cc
-accepted_ok (Err (error.Bad line k)) s e = absurd (cc)
+accepted_ok (Err (error.Bad line k text)) s e = absurd (cc)
 accepted_ok (Err error.Memory) s e = absurd (cc)
 
 built_ok : (o : Option ℕ) (s t : Scenario) → if_built o s ≡ Ok t → s ≡ t

@@ -76,8 +76,8 @@ is_silent status.SinkFault = false
 is_silent _ = true
 
 -- a fact for each status
-abbrev pub IfScenario : Status → (ℕ → Kind → Type 0) → Type 0
-IfScenario (status.Scenario line k) P = P line k
+abbrev pub IfScenario : Status → (ℕ → Kind → List ℕ → Type 0) → Type 0
+IfScenario (status.Scenario line k text) P = P line k text
 IfScenario _ P = Unit {0}
 
 abbrev pub IfNotBuilt : Status → (ℕ → Type 0) → Type 0

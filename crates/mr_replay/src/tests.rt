@@ -61,7 +61,7 @@ pub fn replayed<R: AllocGlobal + Wait + Threads + Sync>(
 /// A status: its number, its line, and the number of its kind; 0 where it has none.
 pub fn told(status: &Status) -> (u8, u32, u8) {
     match status {
-        Status::Scenario { line, kind } => (2, *line, kind.number()),
+        Status::Scenario { line, kind, .. } => (2, *line, kind.number()),
         Status::NotBuilt { line } => (12, *line, 0),
         other => (other.number(), 0, 0),
     }

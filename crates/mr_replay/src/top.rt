@@ -123,8 +123,9 @@ pub fn run<R: Wait + Threads + Sync, S: Store, K: Sink, D: Door, C: Clock, G: Ga
     ensures usage { (result ≡ status.Usage) ↔ (file_asked (map string_bytes words.now) ≡ None) }
     // The sink took the text of a legal history of the scenario that the file spells, with what that asks in its order.
     ensures good { result ≡ status.Good → Replays (map string_bytes words.now) (S.told store.old) (λ text. Takes (K.taken out.old) text (K.taken out.new)) }
-    // The first bad line of the file, and what is wrong with it.
-    ensures scenario { IfScenario result (λ line kind. ComesTo (map string_bytes words.now) (S.told store.old) (status.Scenario line kind)) }
+    // The first bad line of the file, what is wrong with it, and how it begins.
+    ensures scenario { IfScenario result (λ line kind text.
+        ComesTo (map string_bytes words.now) (S.told store.old) (status.Scenario line kind text)) }
     // The first line of the file that is not built, by its form or else by its call or packet.
     ensures not_built { IfNotBuilt result (λ line. ComesTo (map string_bytes words.now) (S.told store.old) (status.NotBuilt line)) }
     // The lines of the daemons are more than the limit on control entries.
