@@ -111,6 +111,19 @@ impl MemStore {
         self.fails.iter().any(|n| *n == number)
     }
 
+    /// What the next call gives if it is a read: `None` where it is to fail or no file has the name.
+    fn given(&self, name: &str) -> Option<&[u8]>
+        ensures none { is_none result ≡ is_to_fail self.now.fails.items self.now.made
+            || is_none (bytes_of self.now.files.items name.now) }
+        ensures bytes { IfSome result (λ bytes.
+            bytes_of self.now.files.items name.now ≡ Some bytes.now) }
+    {
+        if self.is_next_to_fail() {
+            return None;
+        }
+        self.bytes(name)
+    }
+
     /// Keeps the facts of a call, and counts it where it failed.
     fn keep(&mut self, is_read: bool, name: &str, failed: bool)
         requires { length name.now ≤ 255 }
@@ -177,11 +190,7 @@ impl Store for MemStore {
         ensures called { ⟦<MemStore as Store>⟧.calls self.new ≡ ⟦<MemStore as Store>⟧.calls self.old
             ++ record { is_read = true; name = name.now; failed = is_failed_read result } ∷ [] }
     {
-        if self.is_next_to_fail() {
-            self.keep(true, name, true);
-            return Err(ReadError::Failed);
-        }
-        let Some(bytes) = self.bytes(name) else {
+        let Some(bytes) = self.given(name) else {
             self.keep(true, name, true);
             return Err(ReadError::Failed);
         };

@@ -95,6 +95,27 @@ fn store(rt: HostRuntime) -> Result<(), Fail> {
 }
 
 #[test]
+fn store_fails_once(rt: HostRuntime) -> Result<(), Fail> {
+    let alloc = rt.alloc();
+    let mut files = Vec::new(alloc);
+    files.push((FileName::new("a"), vec![in alloc; 1_u8, 2]?))?;
+    let mut store = MemStore::with(alloc, files, vec![in alloc; 1_u64, 3]?);
+    assert_eq!(rt;
+        content(&mut store, alloc, "a").err(),
+        Some(ReadError::Failed)
+    );
+    assert_eq!(rt;
+        content(&mut store, alloc, "a").ok().ok_or("a")?.as_slice(),
+        [1_u8, 2].as_slice()
+    );
+    assert_eq!(rt; store.write("a", b"new".as_slice()), Err(Failed));
+    assert_eq!(rt; store.bytes("a"), Some([1_u8, 2].as_slice()));
+    assert_eq!(rt; store.write("a", b"new".as_slice()), Ok(()));
+    assert_eq!(rt; store.bytes("a"), Some(b"new".as_slice()));
+    Ok(())
+}
+
+#[test]
 fn sink(rt: HostRuntime) -> Result<(), Fail> {
     let alloc = rt.alloc();
     let mut sink = MemSink::with(alloc, Vec::new(alloc));
