@@ -1,9 +1,9 @@
 //! What a status that is not Good means, as one line on standard error.
 
-use crate::folder::LONGEST;
 use crate::form::{form, limit};
 use crate::found::{bad_address, bad_file, bad_number, bad_threshold, text_at, word_at};
 use crate::shown::shown;
+use mr_base::{DEFAULT_CONTROLS, LONGEST_FILE};
 use mr_replay::Status;
 use mr_scenario::Kind;
 use std::alloc::{AllocError, Global};
@@ -58,12 +58,12 @@ fn found(line: &[u8], kind: Kind) -> &[u8] {
     }
 }
 
-/// What was expected in a line with a mistake of this kind.
-fn expected(line: &[u8], kind: Kind) -> &'static str {
+/// What was expected in a line with a mistake of this kind, where that is always the same or goes by
+/// the line's form.
+fn form_of(line: &[u8], kind: Kind) -> &'static str {
     match kind {
         Kind::Header => "'scenario 1', in front of all others",
         Kind::Word => form(text_at(line, 0), text_at(line, 2)),
-        Kind::Number => bad_number(line).1,
         Kind::Address => "four numbers of 0 to 255 parted by dots",
         Kind::Name => {
             "1 to 15 letters, digits, '.', '_', '-' or ':', a letter first, not pimreg, each name once"
@@ -73,10 +73,26 @@ fn expected(line: &[u8], kind: Kind) -> &'static str {
         Kind::Daemon => "the number, from 1, of a daemon of the sort that has this operation",
         Kind::Hex => "an even number of hex digits, at most 131070",
         Kind::Threshold => "V:T, V 0 to 31 each once, T 0 to 255",
-        Kind::Limit => limit(text_at(line, 0)),
         Kind::File => {
             "a name of 1 to 255 bytes without '/', not '.' or '..', which does not begin with 'out-', at most 8"
         }
+        Kind::Number | Kind::Limit => "",
+    }
+}
+
+/// The range of the first bad number of a line.
+fn range_of(alloc: Global, line: &[u8]) -> Result<String, AllocError> {
+    let (_, place) = bad_number(line);
+    let (sign, least, most) = (place.sign, place.least, place.most);
+    format!(in alloc; "{sign}{least} to {sign}{most}")
+}
+
+/// What was expected in a line with a mistake of this kind.
+fn expected(alloc: Global, line: &[u8], kind: Kind) -> Result<String, AllocError> {
+    match kind {
+        Kind::Number => range_of(alloc, line),
+        Kind::Limit => limit(alloc, text_at(line, 0)),
+        _ => String::from_str(alloc, form_of(line, kind)),
     }
 }
 
@@ -84,29 +100,32 @@ fn expected(line: &[u8], kind: Kind) -> &'static str {
 pub fn mistake(alloc: Global, line: &[u8], kind: Kind) -> Result<String, AllocError> {
     let what = subject(kind);
     let word = shown(alloc, found(line, kind))?;
-    let wanted = expected(line, kind);
+    let wanted = expected(alloc, line, kind)?;
     format!(in alloc; "bad {what} '{word}' ({wanted})")
 }
 
-/// The bytes of the scenario as it is now, for its line. A pipe gives its bytes once, so only a plain file is read again.
+/// The bytes of the scenario as it is now, for a line that is not built. A pipe gives its bytes once, so
+/// only a plain file is read again.
 fn bytes_again<R: Files + AllocGlobal>(rt: &R, file: &str) -> io::Result<Vec<u8>> {
     let mut bytes = Vec::new(rt.alloc());
     if fs::metadata(rt, file)?.is_file() {
-        File::open(rt, file)?.take(LONGEST).read_to_end(&mut bytes)?;
+        File::open(rt, file)?
+            .take(LONGEST_FILE)
+            .read_to_end(&mut bytes)?;
     }
     Ok(bytes)
 }
 
-/// Shows a bad line of a scenario.
-fn explain_bad<R: Files + AllocGlobal + Eprint>(
+/// Shows a bad line of a scenario, of which the reader gave these bytes.
+fn explain_bad<R: AllocGlobal + Eprint>(
     rt: &R,
     file: &str,
     line: u32,
     kind: Kind,
+    text: &[u8],
 ) -> io::Result<()> {
-    let bytes = bytes_again(rt, file)?;
-    let text = mistake(rt.alloc(), line_at(bytes.as_slice(), line), kind)?;
-    eprintln!(rt; "{file}:{line}: {text}")
+    let message = mistake(rt.alloc(), text, kind)?;
+    eprintln!(rt; "{file}:{line}: {message}")
 }
 
 /// Shows a line that is not built.
@@ -127,7 +146,7 @@ fn reason<R: Files>(rt: &R, file: &str) -> &'static str {
         Ok(data) => {
             if data.is_dir() {
                 "it is a folder"
-            } else if data.len() > LONGEST {
+            } else if data.len() > LONGEST_FILE {
                 "it is too long"
             } else if File::open(rt, file).is_err() {
                 "there is no permission"
@@ -160,20 +179,22 @@ pub fn explain<R: Files + AllocGlobal + Eprint>(
                 "usage: replay SCENARIO (a file of the folder, by a name of 1 to 255 bytes that does not begin with 'out-')"
             )
         }
-        Status::Scenario { line, kind } => explain_bad(rt, file, *line, *kind),
+        Status::Scenario { line, kind, text } => {
+            explain_bad(rt, file, *line, *kind, text.0.as_slice())
+        }
         Status::NotBuilt { line } => explain_line(rt, file, *line),
         Status::StoreFault { file } => {
             let name = file.as_str();
             let why = reason(rt, name);
             eprintln!(rt;
-                "{name}: cannot be read: {why} (a file of at most {LONGEST} bytes was expected)"
+                "{name}: cannot be read: {why} (a file of at most {LONGEST_FILE} bytes was expected)"
             )
         }
         Status::SinkFault => eprintln!(rt; "standard output did not take the whole history"),
         Status::Memory => eprintln!(rt; "memory ran out, and nothing was written"),
         Status::ControlFull => {
             eprintln!(rt;
-                "{file}: the daemons' lines are more than the history may hold ('limit control N' with a greater N was expected, or fewer lines; 65536 where it is not given)"
+                "{file}: the daemons' lines are more than the history may hold ('limit control N' with a greater N was expected, or fewer lines; {DEFAULT_CONTROLS} where it is not given)"
             )
         }
     }

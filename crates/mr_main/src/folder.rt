@@ -1,15 +1,14 @@
-ghost use Rattle.std.specs.Prelude.{◌≡◌, ◌≤◌, [], ◌∷◌, ◌++◌, true, false, length};
-ghost use Rattle.mr_base.specs.Outside.{Rose};
+ghost use Rattle.std.specs.Prelude.{◌≡◌, ◌≤◌, [], ◌∷◌, ◌++◌, true, false, None, IfOk, IfSome, IsErrOf, length};
+ghost use Rattle.mr_base.specs.Outside.{Rose, HasFile, AllStay, is_failed_read};
+ghost use Rattle.mr_base.specs.declared.limits.TheConstants.{LONGEST_FILE};
+ghost use Rattle.mr_base.specs.declared.read_error.ReadError.TheVariants as read_error;
 
-use mr_base::{Failed, FileName, Log, ReadError, Store, StoreCall};
+use mr_base::{Failed, FileName, LONGEST_FILE, Log, ReadError, Store, StoreCall};
 use std::alloc::Global;
 use std::fs::File;
 use std::io::Read;
 use std::rt::Files;
 use std::{fs, io};
-
-/// The greatest length of a file, in bytes: a longer one is a failed read.
-pub const LONGEST: u64 = 268_435_456;
 
 /// The files of the folder in which the program was called. It tells nothing of what they hold.
 #[derive(Drop)]
@@ -60,7 +59,7 @@ impl<'a, R: Files + AllocGlobal> Folder<'a, R> {
     fn bytes_of(&self, alloc: Global, name: &str) -> io::Result<Vec<u8>> {
         let file = File::open(self.rt, name)?;
         let mut bytes = Vec::new(alloc);
-        file.take(LONGEST + 1).read_to_end(&mut bytes)?;
+        file.take(LONGEST_FILE + 1).read_to_end(&mut bytes)?;
         Ok(bytes)
     }
 }
@@ -76,10 +75,27 @@ impl<'a, R: Files + AllocGlobal> Store for Folder<'a, R> {
 
     ghost calls = { λ s. s.calls.items };
 
-    fn read(&mut self, alloc: Global, name: &str) -> Result<Vec<u8>, ReadError> {
+    /// The bytes of a file, at most `LONGEST_FILE`; a longer one is a failed read.
+    fn read(&mut self, alloc: Global, name: &str) -> Result<Vec<u8>, ReadError>
+        requires { length name.now ≤ 255 }
+        ensures fits { IfOk result (λ v. length v.items ≤ LONGEST_FILE) }
+        ensures bytes { IfOk result (λ v.
+            HasFile (⟦<Folder<'a, R> as Store>⟧.told self.old) name.now v.items) }
+        ensures absent { IfSome (⟦<Folder<'a, R> as Store>⟧.told self.old) (λ files.
+            files name.now ≡ None → IsErrOf result read_error.Failed) }
+        ensures stays { AllStay (⟦<Folder<'a, R> as Store>⟧.told self.old)
+            (⟦<Folder<'a, R> as Store>⟧.told self.new) }
+        ensures count { self.old.faults ≤ self.new.faults }
+        ensures good { is_failed_read result ≡ false → self.new.faults ≡ self.old.faults }
+        ensures fault { IsErrOf result read_error.Failed → Rose self.old.faults self.new.faults }
+        ensures facts { self.new.last
+            ≡ record { is_read = true; name = name.now; failed = is_failed_read result } }
+        ensures called { self.new.calls.items ≡ self.old.calls.items
+            ++ record { is_read = true; name = name.now; failed = is_failed_read result } ∷ [] }
+    {
         match self.bytes_of(alloc, name) {
             Ok(bytes) => {
-                if bytes.len() as u64 > LONGEST {
+                if bytes.len() as u64 > LONGEST_FILE {
                     self.keep(true, name, true);
                     return Err(ReadError::Failed);
                 }

@@ -1,5 +1,8 @@
 //! What a line of a scenario looks like.
 
+use mr_base::{MOST_DAEMONS, MOST_DEVICES, MOST_ITEMS, MOST_PHASES};
+use std::alloc::{AllocError, Global};
+
 /// The form of a daemon's operation, with `daemon D` in front.
 fn operation(op: &str) -> &'static str {
     match op {
@@ -47,11 +50,11 @@ pub fn form(first: &str, op: &str) -> &'static str {
 }
 
 /// What there is one too many of.
-pub fn limit(first: &str) -> &'static str {
+pub fn limit(alloc: Global, first: &str) -> Result<String, AllocError> {
     match first {
-        "device" => "at most 64 devices",
-        "daemon" | "smc" => "at most 8 daemons",
-        "phase" => "at most 1000 phases",
-        _ => "at most 1048576 packets",
+        "device" => format!(in alloc; "at most {MOST_DEVICES} devices"),
+        "daemon" | "smc" => format!(in alloc; "at most {MOST_DAEMONS} daemons"),
+        "phase" => format!(in alloc; "at most {MOST_PHASES} phases"),
+        _ => format!(in alloc; "at most {MOST_ITEMS} packets"),
     }
 }

@@ -1,5 +1,8 @@
 //! The word of a bad line that a message shows, and what was expected in its place.
 
+use mr_base::{
+    MOST_CONFIGURATIONS, MOST_CONTROLS, MOST_ENTRIES, MOST_LANES, MOST_UNREAD, MOST_UNRESOLVED,
+};
 use mr_words::{address_of, is_file, next_word, number_of, split_part};
 use std::str;
 
@@ -23,40 +26,41 @@ pub fn text_at(line: &[u8], index: usize) -> &str {
     str::from_utf8(word_at(line, index)).unwrap_or("..")
 }
 
-/// Where a number stands in a line, and its range.
-struct Place {
+/// Where a number stands in a line, its range, and the sign in front of it.
+#[derive(Clone, Copy)]
+pub struct Place {
     index: usize,
-    least: u32,
-    most: u32,
-    range: &'static str,
+    pub least: u32,
+    pub most: u32,
+    pub sign: &'static str,
 }
 
 const ENTRIES: [Place; 1] = [Place {
     index: 2,
     least: 1,
-    most: 16_384,
-    range: "1 to 16384",
+    most: MOST_ENTRIES,
+    sign: "",
 }];
 
 const UNRESOLVED: [Place; 1] = [Place {
     index: 2,
     least: 1,
-    most: 64,
-    range: "1 to 64",
+    most: MOST_UNRESOLVED,
+    sign: "",
 }];
 
 const CONTROL: [Place; 1] = [Place {
     index: 2,
     least: 1,
-    most: 1_048_576,
-    range: "1 to 1048576",
+    most: MOST_CONTROLS,
+    sign: "",
 }];
 
 const LANES: [Place; 1] = [Place {
     index: 1,
     least: 0,
-    most: 16,
-    range: "0 to 16",
+    most: MOST_LANES,
+    sign: "",
 }];
 
 const VIF: [Place; 2] = [
@@ -64,13 +68,13 @@ const VIF: [Place; 2] = [
         index: 3,
         least: 0,
         most: 65_535,
-        range: "0 to 65535",
+        sign: "",
     },
     Place {
         index: 4,
         least: 0,
         most: 255,
-        range: "0 to 255",
+        sign: "",
     },
 ];
 
@@ -78,29 +82,37 @@ const SHORT: [Place; 1] = [Place {
     index: 3,
     least: 0,
     most: 65_535,
-    range: "0 to 65535",
+    sign: "",
 }];
 
 const PARENT: [Place; 1] = [Place {
     index: 5,
     least: 0,
     most: 65_535,
-    range: "0 to 65535",
+    sign: "",
 }];
 
 const REPORTS: [Place; 1] = [Place {
     index: 3,
     least: 1,
-    most: 64,
-    range: "1 to 64",
+    most: MOST_UNREAD as u32,
+    sign: "",
 }];
 
 const LONG: [Place; 1] = [Place {
     index: 3,
     least: 0,
     most: 4_294_967_295,
-    range: "0 to 4294967295",
+    sign: "",
 }];
+
+/// The number of an `addvif` line's device, behind an `@`.
+const LOCAL: Place = Place {
+    index: 5,
+    least: 0,
+    most: 4_294_967_295,
+    sign: "@",
+};
 
 /// Where numbers stand in the line.
 fn places(line: &[u8]) -> &'static [Place] {
@@ -120,18 +132,19 @@ fn places(line: &[u8]) -> &'static [Place] {
     }
 }
 
-/// The first bad number of a line, and its range. Where all that stand alone are good it is that behind an `@`.
-pub fn bad_number(line: &[u8]) -> (&[u8], &'static str) {
+/// The first bad number of a line, and its place. Where all that stand alone are good it is that behind
+/// an `@`.
+pub fn bad_number(line: &[u8]) -> (&[u8], &'static Place) {
     for place in places(line) {
         let good = match number_of(word_at(line, place.index), place.most) {
             Some(n) => place.least <= n,
             None => false,
         };
         if !good {
-            return (word_at(line, place.index), place.range);
+            return (word_at(line, place.index), place);
         }
     }
-    (word_at(line, 5), "@0 to @4294967295")
+    (word_at(line, LOCAL.index), &LOCAL)
 }
 
 /// The first bad address of a line.
@@ -181,10 +194,10 @@ pub fn bad_file(line: &[u8]) -> &[u8] {
     if text_at(line, 0) == "lane" {
         return word_at(line, 4);
     }
-    for index in 1..9usize {
+    for index in 1..=MOST_CONFIGURATIONS {
         if !is_file(word_at(line, index)) {
             return word_at(line, index);
         }
     }
-    word_at(line, 9)
+    word_at(line, MOST_CONFIGURATIONS + 1)
 }
