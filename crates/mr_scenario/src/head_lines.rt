@@ -10,7 +10,10 @@ use crate::draft::Draft;
 use crate::forms::{address_word, bad, is_taken, number_in, number_word};
 use crate::scenario::{DaemonKind, Named};
 use crate::stop::{Kind, Stop};
-use mr_base::{Addr, FileName, List};
+use mr_base::{
+    Addr, FileName, List, MOST_CONFIGURATIONS, MOST_CONTROLS, MOST_DAEMONS, MOST_DEVICES,
+    MOST_ENTRIES, MOST_LANES, MOST_UNRESOLVED,
+};
 use mr_words::{is_device_name, is_file, name_of, next_word};
 use std::alloc::Global;
 
@@ -43,7 +46,7 @@ fn limit(before: Option<u32>, most: u32, word: &[u8]) -> Result<u32, Kind>
 fn entries_limit(draft: &mut Draft, word: &[u8]) -> Result<(), Stop>
     ensures { Steps result draft.new (entries_limit draft.old word.now) }
 {
-    draft.entries = Some(limit(draft.entries, 16_384, word)?);
+    draft.entries = Some(limit(draft.entries, MOST_ENTRIES, word)?);
     Ok(())
 }
 
@@ -51,7 +54,7 @@ fn entries_limit(draft: &mut Draft, word: &[u8]) -> Result<(), Stop>
 fn unresolved_limit(draft: &mut Draft, word: &[u8]) -> Result<(), Stop>
     ensures { Steps result draft.new (unresolved_limit draft.old word.now) }
 {
-    draft.unresolved = Some(limit(draft.unresolved, 64, word)?);
+    draft.unresolved = Some(limit(draft.unresolved, MOST_UNRESOLVED, word)?);
     Ok(())
 }
 
@@ -59,7 +62,7 @@ fn unresolved_limit(draft: &mut Draft, word: &[u8]) -> Result<(), Stop>
 fn control_limit(draft: &mut Draft, word: &[u8]) -> Result<(), Stop>
     ensures { Steps result draft.new (control_limit draft.old word.now) }
 {
-    draft.controls = Some(limit(draft.controls, 1_048_576, word)?);
+    draft.controls = Some(limit(draft.controls, MOST_CONTROLS, word)?);
     Ok(())
 }
 
@@ -94,7 +97,7 @@ pub fn lanes_line(draft: &mut Draft, words: &[u8]) -> Result<(), Stop>
     if draft.lanes.is_some() {
         return Err(Stop::Bad(Kind::Word));
     }
-    draft.lanes = Some(number_word(16, number)?);
+    draft.lanes = Some(number_word(MOST_LANES, number)?);
     Ok(())
 }
 
@@ -107,7 +110,7 @@ pub fn device_line(draft: &mut Draft, words: &[u8]) -> Result<(), Stop>
         return Err(Stop::Bad(bad(name, Kind::Name)));
     }
     let addr = address_word(addr)?;
-    if draft.devices.0.as_slice().len() >= 64 {
+    if draft.devices.0.as_slice().len() >= MOST_DEVICES {
         return Err(Stop::Bad(Kind::Limit));
     }
     draft.devices.0.push(Named {
@@ -121,7 +124,7 @@ pub fn device_line(draft: &mut Draft, words: &[u8]) -> Result<(), Stop>
 fn push_daemon(draft: &mut Draft, kind: DaemonKind) -> Result<(), Stop>
     ensures { Steps result draft.new (with_daemon draft.old kind) }
 {
-    if draft.daemons.0.as_slice().len() >= 8 {
+    if draft.daemons.0.as_slice().len() >= MOST_DAEMONS {
         return Err(Stop::Bad(Kind::Limit));
     }
     draft.daemons.0.push(kind)?;
@@ -156,7 +159,7 @@ fn files_of(alloc: Global, words: &[u8]) -> Result<List<FileName>, Stop>
     let mut files = Vec::new(alloc);
     let mut rest = words;
     'words: while let Some((word, after)) = next_word(rest) {
-        if !is_file(word) || files.len() >= 8 {
+        if !is_file(word) || files.len() >= MOST_CONFIGURATIONS {
             return Err(Stop::Bad(bad(word, Kind::File)));
         }
         files.push(name_of(word))?;

@@ -16,7 +16,7 @@ use crate::hex::hex_word;
 use crate::operations::script_of;
 use crate::scenario::{DaemonKind, Given, Item, Phase, ScriptLine};
 use crate::stop::{Kind, Stop};
-use mr_base::{DaemonNo, LaneNo, List};
+use mr_base::{DaemonNo, LaneNo, List, MOST_ITEMS, MOST_PHASES};
 use mr_words::{is_file, name_of};
 use std::alloc::{AllocError, Global};
 
@@ -36,7 +36,7 @@ pub fn phase_line(alloc: Global, line: u32, draft: &mut Draft, words: &[u8]) -> 
 {
     no_words(words).ok_or(Kind::Word)?;
     close_phase(draft)?;
-    if draft.phases.0.as_slice().len() >= 1000 {
+    if draft.phases.0.as_slice().len() >= MOST_PHASES {
         return Err(Stop::Bad(Kind::Limit));
     }
     draft.current = Some(Phase {
@@ -104,7 +104,7 @@ fn packet_item(
 {
     let dev = device_word(draft, dev)?;
     let bytes = hex_word(alloc, digits)?;
-    if draft.sent >= 1_048_576 {
+    if draft.sent >= MOST_ITEMS {
         return Err(Stop::Bad(Kind::Limit));
     }
     let item = Item {

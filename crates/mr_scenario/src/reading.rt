@@ -13,7 +13,7 @@ use crate::head_lines::{daemon_line, device_line, header_line, lanes_line, limit
 use crate::phase_lines::{close_phase, lane_line, lanes_of, phase_line, script_line};
 use crate::scenario::{DaemonKind, Named, Scenario};
 use crate::stop::{Kind, MOST_TEXT, ScenarioError, Stop};
-use mr_base::{Device, List};
+use mr_base::{DEFAULT_CONTROLS, DEFAULT_ENTRIES, DEFAULT_UNRESOLVED, Device, List};
 use mr_model::Limits;
 use mr_words::{next_word, split_line, trimmed};
 use std::alloc::{AllocError, Global};
@@ -199,9 +199,9 @@ fn limits_of(alloc: Global, draft: &Draft) -> Result<Limits, AllocError>
     ensures { IfOk result (λ l. l ≡ limits_of draft.now) }
 {
     Ok(Limits {
-        entries: draft.entries.unwrap_or(1024),
-        unresolved: draft.unresolved.unwrap_or(10),
-        controls: draft.controls.unwrap_or(65_536),
+        entries: draft.entries.unwrap_or(DEFAULT_ENTRIES),
+        unresolved: draft.unresolved.unwrap_or(DEFAULT_UNRESOLVED),
+        controls: draft.controls.unwrap_or(DEFAULT_CONTROLS),
         phases: draft.phases.0.as_slice().len() as u32,
         packets: List(no_packets(alloc, lanes_of(draft))?),
         admins: List(admins_of(alloc, draft.daemons.0.as_slice())?),
