@@ -14,7 +14,7 @@ use std::alloc::Global;
 use std::marker::Model;
 
 /// The most entries for which a cache can be made.
-pub const MOST_SLOTS: u32 = 16_384;
+pub const MOST_SLOTS: u32 = mr_base::MOST_ENTRIES;
 
 /// The multicast forwarding cache (ipmr.c, `mfc_cache`): the (S,G) entries, those for any origin,
 /// (0.0.0.0, G), and those for any origin and any group, (0.0.0.0, 0.0.0.0).

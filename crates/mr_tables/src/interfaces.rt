@@ -11,7 +11,7 @@ use mr_model::{VifCtl, What};
 use mr_vif::Vifs;
 
 /// How many vifs there can be (mroute.h, MAXVIFS).
-pub const MAXVIFS: u16 = 32;
+pub const MAXVIFS: u16 = mr_base::MAXVIFS;
 
 /// Why a vif is not added, if it is not.
 fn add_vif_error(devices: &[Device], vifs: &Vifs, c: &VifCtl) -> Option<Errno>

@@ -21,7 +21,7 @@ use std::alloc::Global;
 use std::marker::Model;
 
 /// The most devices that tables can be given.
-pub const MOST_DEVICES: usize = 64;
+pub const MOST_DEVICES: usize = mr_base::MOST_DEVICES;
 
 /// Flush flags (mroute.h): entries that are not static.
 const MRT_FLUSH_MFC: u32 = 1;

@@ -4,7 +4,7 @@ use crate::upcall::Upcall;
 use std::marker::Model;
 
 /// How many reports may be unread.
-pub const MOST_UNREAD: usize = 64;
+pub const MOST_UNREAD: usize = mr_base::MOST_UNREAD;
 
 /// The reports that the owner has not read, oldest first: at most `MOST_UNREAD`, in a ring that
 /// lies in the value itself. No call takes memory, and each takes the same time however many
