@@ -4,10 +4,10 @@ use Rattle.std.proofs.lemmas.List.{length-append, length-set}
 use Rattle.mr_unres.specs.declared.unresolved.Unresolved.{Unresolved}
 use Rattle.mr_unres.specs.declared.unresolved.TheConstants.{MOST_ENTRIES, MOST_PACKETS}
 use Rattle.mr_unres.specs.Entries.{awaiting, NoneAfter}
-use Rattle.mr_unres.specs.Slots.{SlotList, somes, with_slots}
+use Rattle.mr_unres.specs.Slots.{SlotList, StandsFirst, somes, with_slots}
 use Rattle.mr_unres.specs.Keeping.{IsKept, IsRising, AreFew}
 use Rattle.mr_unres.proofs.Places.{Slot, entry_there}
-use Rattle.mr_unres.proofs.Listed.{somes_append, somes_between, entry_between, somes_gap, somes_set, gone_gap, gone_set, gone_push}
+use Rattle.mr_unres.proofs.Listed.{somes_append, somes_between, entry_between, somes_gap, somes_set, gone_gap, gone_set, gone_push, gaps_before, place_within}
 use Rattle.mr_unres.proofs.Ordered.{all_split, all_put, all_push, rising_without, rising_with, rising_push}
 
 -- an entry is taken out
@@ -83,3 +83,11 @@ counted_there limit count oldest slots before e after whole kept =
     let was : length (somes slots.items) ≡ length (somes before) + suc (length (somes after)) =
     ap length (somes_between slots.items before e after whole) ∙ length-append (somes before) (e ∷ somes after) in
     omega (arith, kept.counted)
+
+-- the oldest entry is taken out
+pub kept_pop : (limit count oldest : ℕ) (old new : SlotList) (i : ℕ) (s : StandsFirst old.items i) → new ≡ with_slots old (slice_set old.items i None)
+    → IsKept limit count oldest old → IsKept limit (count - 1) i new
+kept_pop limit count oldest old new i s gap kept =
+    let within : i < length old.items = place_within old.items s.before s.entry s.after i s.whole s.place in
+    subst (λ (slots : SlotList). IsKept limit (count - 1) i slots) (sym gap)
+    (kept_gap limit count oldest old s.before s.entry s.after i i s.whole s.place (omega arith) (gaps_before old.items i s) kept)

@@ -69,24 +69,31 @@ young_all now slots i young s says so rising =
     rw here (ap (λ (es : List Unresolved). s.entry ∷ es) (young_from now s.entry.since (somes s.after) here order.0)) in
     subst (λ (es : List Unresolved). filter (is_young now) es ≡ es) (sym (somes_first slots i s)) kept
 
--- the oldest is not young, so the young ones are among the others
-pub young_rest : (now : ℕ) (slots : List Slot) (i : ℕ) (young : Bool) → StandsFirst slots i
-    → IfSome (entry_in slots i) (λ e. young ≡ is_young now e) → young ≡ false
-    → filter (is_young now) (somes (slice_set slots i None)) ≡ filter (is_young now) (somes slots)
-young_rest now slots i young s says so =
-    let is : young ≡ is_young now s.entry = subst (λ (o : Option Unresolved). IfSome o (λ e. young ≡ is_young now e)) (entry_first slots i s) says in
-    let here : is_young now s.entry ≡ false = sym is ∙ so in
-    let kept : filter (is_young now) (s.entry ∷ somes s.after) ≡ filter (is_young now) (somes s.after) = rw here refl in
-    ap (λ (es : List Unresolved). filter (is_young now) es) (somes_rest slots i s)
-    ∙ sym (ap (λ (es : List Unresolved). filter (is_young now) es) (somes_first slots i s) ∙ kept)
-
--- how many packets there are besides those of the oldest
-pub count_rest : (slots : List Slot) (i n : ℕ) (e : Unresolved) → StandsFirst slots i → entry_in slots i ≡ Some e → n ≡ length e.packets
-    → n + packet_count (somes (slice_set slots i None)) ≡ packet_count (somes slots)
-count_rest slots i n e s at long =
+-- the oldest, and the others once it is taken out
+pub first_out : (slots after : List Slot) (i : ℕ) (e : Unresolved) → StandsFirst slots i → entry_in slots i ≡ Some e → after ≡ slice_set slots i None
+    → somes slots ≡ e ∷ somes after
+first_out slots after i e s at gap =
     let is : s.entry ≡ e = same_Some s.entry e (sym (entry_first slots i s) ∙ at) in
-    let whole : packet_count (somes slots) ≡ length s.entry.packets + packet_count (somes s.after) =
-    ap (λ (es : List Unresolved). packet_count es) (somes_first slots i s) ∙ sum_by-cons (λ (f : Unresolved). length f.packets) s.entry (somes s.after) in
-    let rest : packet_count (somes (slice_set slots i None)) ≡ packet_count (somes s.after) = ap (λ (es : List Unresolved). packet_count es) (somes_rest slots i s) in
-    let same : length s.entry.packets ≡ length e.packets = ap (λ (f : Unresolved). length f.packets) is in
+    let rest : somes s.after ≡ somes after = sym (somes_rest slots i s) ∙ ap somes (sym gap) in
+    somes_first slots i s ∙ ap (λ (f : Unresolved). f ∷ somes s.after) is ∙ ap (λ (es : List Unresolved). e ∷ es) rest
+
+-- the oldest is not young
+pub oldest_expired : (now : ℕ) (slots : List Slot) (i : ℕ) (young : Bool) (e : Unresolved) → entry_in slots i ≡ Some e
+    → IfSome (entry_in slots i) (λ f. young ≡ is_young now f) → young ≡ false → is_young now e ≡ false
+oldest_expired now slots i young e at says so =
+    sym (subst (λ (o : Option Unresolved). IfSome o (λ f. young ≡ is_young now f)) at says) ∙ so
+
+-- the young ones are among those that stay
+pub young_rest : (now : ℕ) (old new : List Unresolved) (e : Unresolved) → old ≡ e ∷ new → is_young now e ≡ false
+    → filter (is_young now) new ≡ filter (is_young now) old
+young_rest now old new e out so =
+    let kept : filter (is_young now) (e ∷ new) ≡ filter (is_young now) new = rw so refl in
+    sym (ap (λ (es : List Unresolved). filter (is_young now) es) out ∙ kept)
+
+-- how many packets there are besides those of one
+pub count_rest : (n : ℕ) (old new : List Unresolved) (e : Unresolved) → old ≡ e ∷ new → n ≡ length e.packets
+    → n + packet_count new ≡ packet_count old
+count_rest n old new e out long =
+    let whole : packet_count old ≡ length e.packets + packet_count new =
+    ap (λ (es : List Unresolved). packet_count es) out ∙ sum_by-cons (λ (f : Unresolved). length f.packets) e new in
     omega arith

@@ -151,3 +151,25 @@ fn gaps_are_closed(rt: HostRuntime) -> Result<(), Fail> {
     assert_eq!(rt; waiting.expire(10_000), 1);
     Ok(())
 }
+
+#[test]
+fn one_by_one(rt: HostRuntime) -> Result<(), Fail> {
+    let Ok(mut waiting) = Waiting::with(rt.alloc(), 4) else {
+        return Err(Fail::from("memory"));
+    };
+    assert_eq!(rt; park(&mut waiting, 1, 9, 0, 0), Ok(true));
+    assert_eq!(rt; park(&mut waiting, 2, 9, 0, 1), Ok(false));
+    assert_eq!(rt; park(&mut waiting, 3, 8, 1, 1), Ok(true));
+    let Some(first) = waiting.pop_expired(10_000) else {
+        return Err(Fail::from("none has expired"));
+    };
+    assert_eq!(rt; (first.src, first.dst, first.since), (source(9), GROUP, 0));
+    assert_eq!(rt; first.into_packets().len(), 2);
+    assert!(rt; waiting.pop_expired(10_000).is_none());
+    let Some(last) = waiting.pop() else {
+        return Err(Fail::from("none waits"));
+    };
+    assert_eq!(rt; (last.src, last.since), (source(8), 1));
+    assert!(rt; waiting.pop().is_none());
+    Ok(())
+}

@@ -66,7 +66,7 @@ impl Unresolved {
     }
 
     /// Its packets, oldest first.
-    pub(crate) fn into_packets(self) -> ArrayVec<Packet, MOST_PACKETS>
+    pub fn into_packets(self) -> ArrayVec<Packet, MOST_PACKETS>
         ensures { result.items ≡ self.packets }
     {
         self.packets.0

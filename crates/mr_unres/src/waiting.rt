@@ -155,6 +155,41 @@ impl Waiting {
         }
     }
 
+    /// Takes the oldest entry out, with its packets. Where there is none it gives none.
+    pub fn pop(&mut self) -> Option<Unresolved>
+        ensures some { IfSome result (λ e. self.old.entries ≡ e ∷ self.new.entries) }
+        ensures none { IfNone result (self.old.entries ≡ []) }
+        ensures limit { self.new.limit ≡ self.old.limit }
+    {
+        let place = self.slots.first_from(self.oldest)?;
+        self.oldest = place;
+        let entry = self.slots.take(place);
+        self.count -= 1;
+        Some(entry)
+    }
+
+    /// Takes the oldest entry out, with its packets, where it has waited for ten seconds or more at
+    /// this moment, in milliseconds. Where it gives none, no entry has. No other entry is looked
+    /// at.
+    pub fn pop_expired(&mut self, now: u64) -> Option<Unresolved>
+        ensures some { IfSome result (λ e. self.old.entries ≡ e ∷ self.new.entries) }
+        ensures expired { IfSome result (λ e. is_young now e ≡ false) }
+        ensures none { IfNone result (filter (is_young now) self.old.entries ≡ self.old.entries) }
+        ensures stays { IfNone result (self.new ≡ self.old) }
+        ensures limit { self.new.limit ≡ self.old.limit }
+        ensures young { unexpired now (awaiting self.new.entries)
+            ≡ unexpired now (awaiting self.old.entries) }
+    {
+        let place = self.slots.first_from(self.oldest)?;
+        self.oldest = place;
+        if self.slots.is_young_at(place, now) {
+            return None;
+        }
+        let entry = self.slots.take(place);
+        self.count -= 1;
+        Some(entry)
+    }
+
     /// Drops the packets of the entries that have waited for ten seconds or more at this moment, in
     /// milliseconds, and tells how many packets these were. No entry that stays is looked at but
     /// the oldest.
@@ -167,8 +202,8 @@ impl Waiting {
         if self.count == 0 {
             return dropped;
         }
-        while let Some(packets) = self.pop_expired(now) {
-            dropped += packets;
+        while let Some(entry) = self.pop_expired(now) {
+            dropped += entry.packet_count();
         }
         dropped
     }
@@ -188,7 +223,7 @@ impl Waiting {
 
 impl Waiting {
     ghost use Rattle.mr_unres.specs.Entries.{NoneAfter, awaiting, room_at, entry_at, is_for};
-    ghost use Rattle.mr_unres.specs.Entries.{is_young, packet_count, answer_by, with_entries};
+    ghost use Rattle.mr_unres.specs.Entries.{answer_by, with_entries};
     ghost use Rattle.mr_unres.specs.Slots.{AllFail};
 
     /// Parks a packet whose source and group have no entry.
@@ -208,27 +243,5 @@ impl Waiting {
         self.slots.push(Unresolved::new(packet, now));
         self.count += 1;
         Ok(true)
-    }
-
-    /// Takes the oldest entry out where it has waited for ten seconds or more, and gives the number
-    /// of its packets.
-    fn pop_expired(&mut self, now: u64) -> Option<u32>
-        ensures none { IfNone result ((self.new ≡ self.old)
-            × (filter (is_young now) self.old.entries ≡ self.old.entries)) }
-        ensures limit { self.new.limit ≡ self.old.limit }
-        ensures young { filter (is_young now) self.new.entries
-            ≡ filter (is_young now) self.old.entries }
-        ensures dropped { IfSome result (λ n.
-            n + packet_count self.new.entries ≡ packet_count self.old.entries) }
-        ensures fewer { OnSome result (length self.new.entries < length self.old.entries) }
-    {
-        let place = self.slots.first_from(self.oldest)?;
-        self.oldest = place;
-        if self.slots.is_young_at(place, now) {
-            return None;
-        }
-        let entry = self.slots.take(place);
-        self.count -= 1;
-        Some(entry.packet_count())
     }
 }
