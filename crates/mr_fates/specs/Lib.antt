@@ -1,0 +1,4 @@
+pub mod Lines
+pub mod Lanes
+pub mod Keeping
+pub mod After
