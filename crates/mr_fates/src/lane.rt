@@ -34,7 +34,7 @@ impl Model for LaneLines {
 }
 
 impl LaneLines {
-    ghost use Rattle.mr_fates.specs.Lanes.{line_in};
+    ghost use Rattle.mr_fates.specs.Lanes.{line_in, IsRising};
 
     /// No place, and room for so many.
     pub(crate) fn with_room(alloc: Global, room: u32) -> Result<LaneLines, AllocError>
@@ -60,7 +60,8 @@ impl LaneLines {
 
     /// Where the line with this index stands, in logarithmic time.
     pub(crate) fn line_of(&self, index: u32) -> Option<u32>
-        ensures { result ≡ line_in self.now.places index }
+        ensures line { result ≡ line_in self.now.places index }
+        ensures rising { IsRising self.now.places }
     {
         match self
             .places
