@@ -182,7 +182,7 @@ above_placed lane index from (f ∷ lines) next = by (f.lane.0 == lane.0) next.0
     by false below more = more
 
 -- a lane has as many places as lines
-abbrev tally : LaneNo → List FateLine → ℕ
+abbrev pub tally : LaneNo → List FateLine → ℕ
 tally lane [] = 0
 tally lane (f ∷ lines) = cond (f.lane.0 == lane.0) (1 + tally lane lines) (tally lane lines)
 
@@ -195,8 +195,11 @@ tallied lane from (f ∷ lines) =
       | false ↦ more
     ]
 
+pub tally_counts : (lane : LaneNo) (lines : List FateLine) → tally lane lines ≡ lane_count lane lines
+tally_counts lane lines = is_count_by (tally lane) (λ f. f.lane.0 == lane.0) refl (λ f fs. refl) lines
+
 pub places_counted : (lane : LaneNo) (lines : List FateLine) → length (places_from lane.0 0 lines) ≡ lane_count lane lines
-places_counted lane lines = tallied lane 0 lines ∙ is_count_by (tally lane) (λ f. f.lane.0 == lane.0) refl (λ f fs. refl) lines
+places_counted lane lines = tallied lane 0 lines ∙ tally_counts lane lines
 
 -- the line that stands at that place
 line_there : (before : List FateLine) (f d : FateLine) (after : List FateLine) → d ≡ slice_index_or (before ++ f ∷ after) (length before) d → d ≡ f

@@ -10,12 +10,11 @@ use Rattle.mr_fates.proofs.Kept.{kept_fresh, all_push, rooms_push}
 use Rattle.mr_fates.proofs.fates.Fates.make.Goals as goal
 
 pub loop-room-init : goal.loop-room-init
-loop-room-init c =
-    (
-      refl,
-      ap (λ (ls : List PlaceList). map (λ l. l.room) ls) c.in_ok-lanes.ensures.items,
-      subst (λ (ls : List PlaceList). AllByRecursion (λ l. l.places ≡ []) ls) (sym c.in_ok-lanes.ensures.items) tt,
-    )
+loop-room-init c = (
+  refl,
+  ap (λ (ls : List PlaceList). map (λ l. l.room) ls) c.in_ok-lanes.ensures.items,
+  subst (λ (ls : List PlaceList). AllByRecursion (λ l. l.places ≡ []) ls) (sym c.in_ok-lanes.ensures.items) tt,
+)
 
 more : (c : goal.In_ok-push) → c.loop-room.total + slice_index_or c.args.packets.now c.loop-room.room-index 0 ≡ sum (take (c.loop-room.room-index + 1) c.args.packets.now)
 more c =
@@ -29,15 +28,14 @@ overflow_add-total c =
     omega (arith, all, within, c.requires.most)
 
 pub loop-room-preserved : goal.loop-room-preserved
-loop-room-preserved c =
-    (
-      more c,
-      rooms_push c.args.packets.now c.loop-room.room-index c.loop-room.lanes.items c.push.new.self.items c.in_ok-with_room.field-0 c.loop-room-test.true
-          c.in_ok-push.ensures.items c.in_ok-with_room.ensures c.loop-room.invariant.1,
-      subst (λ (ls : List PlaceList). AllByRecursion (λ l. l.places ≡ []) ls) (sym c.in_ok-push.ensures.items)
-          (all_push (λ l. l.places ≡ []) c.loop-room.lanes.items c.in_ok-with_room.field-0 c.loop-room.invariant.2
-          (ap (λ (l : PlaceList). l.places) c.in_ok-with_room.ensures)),
-    )
+loop-room-preserved c = (
+  more c,
+  rooms_push c.args.packets.now c.loop-room.room-index c.loop-room.lanes.items c.push.new.self.items c.in_ok-with_room.field-0 c.loop-room-test.true
+      c.in_ok-push.ensures.items c.in_ok-with_room.ensures c.loop-room.invariant.1,
+  subst (λ (ls : List PlaceList). AllByRecursion (λ l. l.places ≡ []) ls) (sym c.in_ok-push.ensures.items)
+      (all_push (λ l. l.places ≡ []) c.loop-room.lanes.items c.in_ok-with_room.field-0 c.loop-room.invariant.2
+      (ap (λ (l : PlaceList). l.places) c.in_ok-with_room.ensures)),
+)
 
 pub invariant_of-result : goal.invariant_of-result
 invariant_of-result c =
