@@ -1,5 +1,5 @@
 -- Which packets an entry gives a fate to.
-use Rattle.std.proofs.Common.{◌≡◌, ℕ, ◌+◌, ◌-◌, ◌<◌, ◌≤◌, ◌==◌, ◌&&◌, nat_lt, Bool, true, false, not, if◌then◌else◌, Option, Some, None, List, [], ◌∷◌, ◌++◌, length, map, refl, sym, ap, subst, ◌∙◌, ◌⊎◌, inl, inr, arith}
+use Rattle.std.proofs.Common.{◌≡◌, ℕ, suc, ◌+◌, ◌-◌, ◌<◌, ◌≤◌, ◌&&◌, nat_lt, Bool, true, false, not, if◌then◌else◌, Option, Some, None, List, [], ◌∷◌, ◌++◌, length, map, filter, refl, sym, ap, ◌∙◌, ◌⊎◌, inl, inr, arith}
 use Rattle.std.proofs.lemmas.Bool.{cases_lt, lt-ltb, le-ltb, ltb-true}
 use Rattle.mr_base.specs.declared.numbers.DaemonNo.{DaemonNo}
 use Rattle.mr_base.specs.declared.numbers.LaneNo.{LaneNo}
@@ -25,13 +25,13 @@ use Rattle.mr_model.specs.Waiting.{waiting}
 use Rattle.mr_model.specs.WaitingList.{Awaiting, is_waiting, unexpired}
 use Rattle.mr_model.proofs.Induction.{good_released}
 use Rattle.mr_model.proofs.Pushing.{state_push}
-use Rattle.mr_laws.proofs.Counting.{times, each, waiting_times, times_filter, times_split}
+use Rattle.mr_laws.proofs.Counting.{times, waiting_times, times_filter, times_split}
 use Rattle.mr_laws.proofs.Moving.{count, Moves, not_named}
 use Rattle.mr_laws.proofs.OneFate.{legal_known, legal_moves}
 use Rattle.mr_fates.specs.Lines.{waiting_line}
 use Rattle.mr_fates.specs.After.{line_after, ended_all, released_each, expired, drops_all, is_without_fates}
 use Rattle.mr_fates.proofs.Ending.{fates_both, fates_push, after_none, lines_stay}
-use Rattle.mr_fates.proofs.Folding.{mark, marked, among, each_is, all_is}
+use Rattle.mr_fates.proofs.Folding.{mark, marked, each_is, all_is}
 
 -- the entry gives this fate to the packets that pass a test, and to no other
 abbrev Gives : Limits → List Entry → Entry → (LaneNo → ℕ → Bool) → Fate → Type 0
@@ -220,3 +220,30 @@ pub fates_parked : (limits : Limits) (h : List Entry) (lane : LaneNo) (index loo
 fates_parked limits h lane index look flow l a =
     fates_push limits h (Slow lane index look flow Parked) l a
     ∙ ap (λ (ls : List FateLine). ls ++ waiting_line lane index ∷ []) (lines_stay limits h (Slow lane index look flow Parked) (fates limits h) (λ m i. refl))
+
+pub expired_first : (now : ℕ) (a : Awaiting) (ws : List Awaiting) → nat_lt (now - a.since) 10000 ≡ false → expired now (a ∷ ws) ≡ a ∷ expired now ws
+expired_first now a ws aged = rw aged refl
+
+-- a filter that takes one out leaves fewer
+filter_fewer : (test : Awaiting → Bool) (ws : List Awaiting) → length (filter test ws) ≤ length ws
+filter_fewer test [] = omega arith
+filter_fewer test (a ∷ ws) =
+    let more = filter_fewer test ws in
+    elim (test a) as (λ b. length (if b then a ∷ filter test ws else filter test ws) ≤ suc (length ws)) [
+      | true ↦ omega (arith, more)
+      | false ↦ omega (arith, more)
+    ]
+
+none_left : (test : Awaiting → Bool) (ws : List Awaiting) → length ws ≤ length (filter test ws) → filter (λ a. not (test a)) ws ≡ []
+none_left test [] same = refl
+none_left test (a ∷ ws) same = by (test a) same (λ more. none_left test ws more)
+  where
+    by : (b : Bool) → suc (length ws) ≤ length (if b then a ∷ filter test ws else filter test ws) → (length ws ≤ length (filter test ws) → filter (λ x. not (test x)) ws ≡ [])
+        → (if not b then a ∷ filter (λ x. not (test x)) ws else filter (λ x. not (test x)) ws) ≡ []
+    by true all more = more (omega (arith, all))
+    by false all more = absurd (omega (arith, all, filter_fewer test ws))
+
+pub expired_none : (now : ℕ) (ws : List Awaiting) → unexpired now ws ≡ ws → expired now ws ≡ []
+expired_none now ws same =
+    let long : length (unexpired now ws) ≡ length ws = ap length same in
+    none_left (λ a. nat_lt (now - a.since) 10000) ws (omega (arith, long))

@@ -1,16 +1,15 @@
 -- A lane's lines are no more than its packets, and their indexes no higher than its last one.
-use Rattle.std.proofs.Common.{◌≡◌, ℕ, ◌+◌, ◌<◌, ◌≤◌, ◌==◌, Bool, true, false, cond, if◌then◌else◌, List, [], ◌∷◌, ◌++◌, sum_by, refl, sym, ap, ◌∙◌, subst, arith}
+use Rattle.std.proofs.Common.{◌≡◌, ℕ, ◌+◌, ◌<◌, ◌≤◌, ◌==◌, Bool, true, false, cond, if◌then◌else◌, List, [], ◌∷◌, ◌++◌, sym, ap, ◌∙◌, subst, arith}
 use Rattle.std.specs.List.{AllByRecursion}
 use Rattle.std.proofs.lemmas.List.Sums.{sum_by-cons}
 use Rattle.mr_base.specs.declared.numbers.LaneNo.{LaneNo}
 use Rattle.mr_model.specs.declared.ending.FateLine.{FateLine}
 use Rattle.mr_model.specs.declared.entry.Entry.{Entry}
 use Rattle.mr_model.specs.declared.entry.Entry.TheVariants.{Slow}
-use Rattle.mr_model.specs.declared.flow.Flow.{Flow}
 use Rattle.mr_model.specs.declared.limits.Limits.{Limits}
 use Rattle.mr_model.specs.declared.outcome.Outcome.TheVariants.{Parked}
 use Rattle.mr_model.specs.Fate.{fates_of, fates}
-use Rattle.mr_model.specs.Legal.{Agrees, IsLegal}
+use Rattle.mr_model.specs.Legal.{IsLegal}
 use Rattle.mr_model.specs.Past.{is_of_lane, packets_in, packets, last_index}
 use Rattle.mr_model.proofs.Induction.{legal_induction, index_rises}
 use Rattle.mr_model.proofs.PushingLists.{last_index_push}

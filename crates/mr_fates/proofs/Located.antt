@@ -1,8 +1,8 @@
 -- The places of a lane's lines among all lines.
-use Rattle.std.proofs.Common.{◌≡◌, ℕ, zero, suc, ◌+◌, ◌-◌, ◌<◌, ◌≤◌, ◌==◌, ◌&&◌, Bool, true, false, [], ◌∷◌, ◌++◌, List, length, map, slice_set, slice_index_or, Option, Some, None, if◌then◌else◌, cond, count_by, refl, sym, ap, ◌∙◌, subst, arith}
+use Rattle.std.proofs.Common.{◌≡◌, ℕ, suc, ◌+◌, ◌-◌, ◌<◌, ◌≤◌, ◌==◌, ◌&&◌, Bool, true, false, [], ◌∷◌, ◌++◌, List, length, map, slice_set, slice_index_or, Option, Some, None, if◌then◌else◌, cond, refl, sym, ap, ◌∙◌, subst, arith}
 use Rattle.std.specs.Prelude.{find, option_map}
 use Rattle.std.specs.List.{AllByRecursion}
-use Rattle.std.proofs.lemmas.Bool.{eq-eqb, ne_eqb, eqb-true, and_from}
+use Rattle.std.proofs.lemmas.Bool.{ne_eqb, eqb-true, and_from}
 use Rattle.std.proofs.lemmas.Option.{same_Some}
 use Rattle.std.proofs.lemmas.List.Recursion.{is_count_by}
 use Rattle.mr_base.specs.declared.numbers.LaneNo.{LaneNo}

@@ -1,5 +1,5 @@
 -- What one more entry of a history does to the lines of its fates.
-use Rattle.std.specs.Prelude.{ℕ, ◌+◌, ◌-◌, Bool, true, false, not, nat_lt, List, [], ◌∷◌, fold, filter}
+use Rattle.std.specs.Prelude.{ℕ, ◌-◌, Bool, true, false, not, nat_lt, List, [], ◌∷◌, fold, filter}
 use Rattle.mr_model.specs.declared.ending.Fate.{Fate}
 use Rattle.mr_model.specs.declared.ending.Fate.TheVariants.{Released}
 use Rattle.mr_model.specs.declared.ending.FateLine.{FateLine}

@@ -1,5 +1,5 @@
 -- Where the lines of each lane stand, by rising index.
-use Rattle.std.specs.Prelude.{◌≡◌, ℕ, ◌+◌, ◌<◌, ◌==◌, if◌then◌else◌, Option, option_map, List, [], ◌∷◌, length, find, slice_index_or}
+use Rattle.std.specs.Prelude.{ℕ, ◌+◌, ◌<◌, ◌==◌, if◌then◌else◌, Option, option_map, List, [], ◌∷◌, length, find, slice_index_or}
 use Rattle.mr_model.specs.declared.ending.FateLine.{FateLine}
 use Rattle.mr_fates.specs.declared.lane.Place.{Place}
 

@@ -2,3 +2,4 @@ pub mod Lines
 pub mod Lanes
 pub mod Keeping
 pub mod After
+pub mod Rows

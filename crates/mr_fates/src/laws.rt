@@ -1,6 +1,7 @@
 //! Laws of the fates of a history, as a list of lines: what one more entry makes of them.
 
-ghost use Rattle.std.specs.Prelude.{◌≡◌, ℕ, ◌+◌, ◌<◌, ◌≤◌, true, false, List, [], ◌∷◌, ◌++◌, length, map};
+ghost use Rattle.std.specs.Prelude.{◌≡◌, ℕ, ◌+◌, ◌-◌, ◌<◌, ◌≤◌, true, false, nat_lt};
+ghost use Rattle.std.specs.Prelude.{List, [], ◌∷◌, ◌++◌, length, map};
 ghost use Rattle.mr_base.specs.declared.numbers.DaemonNo.{DaemonNo};
 ghost use Rattle.mr_base.specs.declared.numbers.LaneNo.{LaneNo};
 ghost use Rattle.mr_model.specs.declared.ending.Fate.TheVariants.{Expired, Flushed};
@@ -17,8 +18,10 @@ ghost use Rattle.mr_model.specs.Legal.{Agrees, CallAgrees, IsLegal};
 ghost use Rattle.mr_model.specs.Past.{packets, last_index};
 ghost use Rattle.mr_model.specs.State.{state};
 ghost use Rattle.mr_model.specs.Waiting.{waiting};
+ghost use Rattle.mr_model.specs.WaitingList.{Awaiting, unexpired};
 ghost use Rattle.mr_fates.specs.Lines.{waiting_line, lane_count, IsNext};
-ghost use Rattle.mr_fates.specs.After.{line_after, lines_parked, ended_all, released_each, expired, drops_all, is_without_fates};
+ghost use Rattle.mr_fates.specs.After.{line_after, lines_parked, ended_all, released_each};
+ghost use Rattle.mr_fates.specs.After.{expired, drops_all, is_without_fates};
 
 /// One more entry that agrees gives each packet that waited the fate which it decides, and the
 /// line of the packet that it parks stands last, and waits.
@@ -65,4 +68,15 @@ pub fn lines_of_lane()
         IsLegal limits h → last_index lane h < index → IsNext lane index (fates limits h) }
     ensures fit { (limits : Limits) (h : List Entry) (lane : LaneNo) →
         lane_count lane (fates limits h) ≤ packets lane h }
+{}
+
+/// The waiting entries that have waited for ten seconds or more, one after another: the first one
+/// of a list comes first, where it has, and where only entries are left that have not, there is
+/// none.
+pub fn expired_in_turn()
+    ensures next { (now : ℕ) (a : Awaiting) (waiting : List Awaiting) →
+        nat_lt (now - a.since) 10000 ≡ false →
+        expired now (a ∷ waiting) ≡ a ∷ expired now waiting }
+    ensures none { (now : ℕ) (waiting : List Awaiting) →
+        unexpired now waiting ≡ waiting → expired now waiting ≡ [] }
 {}

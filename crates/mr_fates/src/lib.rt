@@ -10,5 +10,5 @@ mod tests;
 mod worked;
 
 pub use fates::{Fates, MOST_LANES, MOST_PACKETS};
-pub use laws::{fates_after, fates_push, lines_of_lane};
-pub use worked::worked_lines;
+pub use laws::{expired_in_turn, fates_after, fates_push, lines_of_lane};
+pub use worked::{worked_entries, worked_lines};

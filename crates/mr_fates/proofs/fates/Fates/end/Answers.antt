@@ -1,4 +1,4 @@
-use Rattle.std.proofs.Common.{◌≡◌, ℕ, List, map, sym, ap, ◌∙◌, subst}
+use Rattle.std.proofs.Common.{List, map, sym, ap, ◌∙◌, subst}
 use Rattle.mr_model.specs.declared.ending.FateLine.{FateLine}
 use Rattle.mr_fates.specs.Keeping.{IsKept, StandsAlone}
 use Rattle.mr_fates.specs.Lines.{FateList, ended}

@@ -1,4 +1,4 @@
-use Rattle.std.proofs.Common.{◌≡◌, ◌+◌, ◌≤◌, ◌<◌, ◌++◌, ◌∷◌, [], ℕ, List, length, map, take, sum, sum_by, slice_index_or, sym, ap, ◌∙◌, subst, arith, refl, take_all}
+use Rattle.std.proofs.Common.{◌≡◌, ◌+◌, [], ℕ, List, map, take, sum, sum_by, slice_index_or, sym, ap, ◌∙◌, subst, arith, refl, take_all}
 use Rattle.std.specs.List.{AllByRecursion}
 use Rattle.std.proofs.lemmas.List.Sums.{sum_by_more, sum_by-take-le, sum-map}
 use Rattle.std.specs.Vec.{vec_capacity}

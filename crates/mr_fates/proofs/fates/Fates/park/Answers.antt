@@ -1,5 +1,5 @@
-use Rattle.std.proofs.Common.{◌≡◌, ◌+◌, ◌-◌, ◌<◌, ◌≤◌, ◌++◌, ◌∷◌, [], ℕ, List, length, map, slice_set, sym, ap, ◌∙◌, subst, arith}
-use Rattle.std.specs.Vec.{vec_capacity, vec_len}
+use Rattle.std.proofs.Common.{◌≡◌, ◌-◌, ◌++◌, ◌∷◌, [], ℕ, List, length, map, slice_set, sym, ap, ◌∙◌, subst, arith}
+use Rattle.std.specs.Vec.{vec_capacity}
 use Rattle.mr_model.specs.declared.ending.FateLine.{FateLine}
 use Rattle.mr_fates.specs.Keeping.{IsKept}
 use Rattle.mr_fates.specs.Lanes.{PlaceList}

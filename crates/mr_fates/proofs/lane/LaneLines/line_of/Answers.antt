@@ -1,4 +1,4 @@
-use Rattle.std.proofs.Common.{◌≡◌, ℕ, List, Some, None, Ok, Err, get_or, rules, sym, ap, ◌∙◌, subst}
+use Rattle.std.proofs.Common.{◌≡◌, Some, get_or, rules, sym, ap, ◌∙◌}
 use Rattle.std.proofs.lemmas.List.{get_or_default}
 use Rattle.std.proofs.lemmas.List.Sorted.{answers_always}
 use Rattle.mr_fates.specs.declared.lane.Place.{Place}
@@ -11,7 +11,7 @@ returns-in-Ok-clause-line c =
     let items = c.self.inside.places.items in
     let facts = c.binary_search_by_key.ensures in
     let by_key = facts.position (λ place. place.index) (answers_always _ _ _ (λ f a r g called. search rules)) in
-    let ends = rw (c.in-Ok.is, c.deref.ensures.value) at (searched _ (rw c.deref.ensures.value c.self.invariant.0) c.args.index _ facts.bound by_key) in
+    let ends = rw (c.in-Ok.is, c.deref.ensures.value) at (searched c.deref.result.now (rw c.deref.ensures.value c.self.invariant.0) c.args.index c.binary_search_by_key.result facts.bound by_key) in
     let within = rw c.deref.ensures.value at c.in-Ok.ensures.bound in
     let read = get_or_default items c.in-Ok.at c.index.result.now no_place within in
     let is : c.index.result.now ≡ get_or items c.in-Ok.at no_place = c.index.ensures ∙ read in
@@ -21,5 +21,5 @@ pub returns-in-Err-clause-line : goal.returns-in-Err-clause-line
 returns-in-Err-clause-line c =
     let facts = c.binary_search_by_key.ensures in
     let by_key = facts.position (λ place. place.index) (answers_always _ _ _ (λ f a r g called. search rules)) in
-    let ends = rw (c.in-Err.is, c.deref.ensures.value) at (searched _ (rw c.deref.ensures.value c.self.invariant.0) c.args.index _ facts.bound by_key) in
+    let ends = rw (c.in-Err.is, c.deref.ensures.value) at (searched c.deref.result.now (rw c.deref.ensures.value c.self.invariant.0) c.args.index c.binary_search_by_key.result facts.bound by_key) in
     sym ends.absent ∙ ap (λ (l : PlaceList). line_in l.places c.args.index) c.self.view_is
