@@ -16,7 +16,8 @@ use Rattle.mr_laws.proofs.OneFate.{legal_known}
 use Rattle.mr_fates.specs.After.{line_after, lines_parked}
 
 -- each line gets what the entry makes of its packet
-pub fates_more : (limits : Limits) (h es : List Entry) (e : Entry) → fates_of limits (h ++ e ∷ []) es ≡ map (line_after limits h e) (fates_of limits h es)
+pub fates_more : (limits : Limits) (h es : List Entry) (e : Entry)
+    → fates_of limits (h ++ e ∷ []) es ≡ map (line_after limits h e) (fates_of limits h es)
 fates_more limits h [] e = refl
 fates_more limits h (Slow lane index look flow Parked ∷ es) e =
     let line : Fate → FateLine = λ f. record { lane = lane; index = index; fate = f } in
@@ -25,19 +26,22 @@ fates_more limits h (Slow lane index look flow Parked ∷ es) e =
 fates_more limits h (x ∷ es) e = fates_more limits h es e
 
 -- the line of the last entry stands last
-pub fates_end : (limits : Limits) (k h : List Entry) (e : Entry) → fates_of limits k (h ++ e ∷ []) ≡ fates_of limits k h ++ fates_of limits k (e ∷ [])
+pub fates_end : (limits : Limits) (k h : List Entry) (e : Entry)
+    → fates_of limits k (h ++ e ∷ []) ≡ fates_of limits k h ++ fates_of limits k (e ∷ [])
 fates_end limits k [] e = refl
 fates_end limits k (Slow lane index look flow Parked ∷ h) e =
     ap (λ (ls : List FateLine). record { lane = lane; index = index; fate = fate limits k lane index } ∷ ls) (fates_end limits k h e)
 fates_end limits k (x ∷ h) e = fates_end limits k h e
 
-pub fates_both : (limits : Limits) (h : List Entry) (e : Entry) → fates limits (h ++ e ∷ []) ≡ map (line_after limits h e) (fates limits h) ++ fates_of limits (h ++ e ∷ []) (e ∷ [])
+pub fates_both : (limits : Limits) (h : List Entry) (e : Entry)
+    → fates limits (h ++ e ∷ []) ≡ map (line_after limits h e) (fates limits h) ++ fates_of limits (h ++ e ∷ []) (e ∷ [])
 fates_both limits h e =
     fates_end limits (h ++ e ∷ []) h e
     ∙ ap (λ (ls : List FateLine). ls ++ fates_of limits (h ++ e ∷ []) (e ∷ [])) (fates_more limits h h e)
 
 -- a packet waits right after it was parked
-pub fates_last : (limits : Limits) (h : List Entry) (e : Entry) → IsLegal limits h → Agrees limits h e → fates_of limits (h ++ e ∷ []) (e ∷ []) ≡ lines_parked e
+pub fates_last : (limits : Limits) (h : List Entry) (e : Entry) → IsLegal limits h
+    → Agrees limits h e → fates_of limits (h ++ e ∷ []) (e ∷ []) ≡ lines_parked e
 fates_last limits h (Slow lane index look flow Parked) l a =
     let line : Fate → FateLine = λ f. record { lane = lane; index = index; fate = f } in
     ap (λ (f : Fate). line f ∷ [])
@@ -45,7 +49,9 @@ fates_last limits h (Slow lane index look flow Parked) l a =
     ∙ ap (λ (f : Fate). fate_after f None) ((legal_known limits lane index h l).fresh a.next))
 fates_last limits h e l a = refl
 
-pub fates_push : (limits : Limits) (h : List Entry) (e : Entry) → IsLegal limits h → Agrees limits h e → fates limits (h ++ e ∷ []) ≡ map (line_after limits h e) (fates limits h) ++ lines_parked e
+pub fates_push : (limits : Limits) (h : List Entry) (e : Entry) → IsLegal limits h
+    → Agrees limits h e
+    → fates limits (h ++ e ∷ []) ≡ map (line_after limits h e) (fates limits h) ++ lines_parked e
 fates_push limits h e l a =
     fates_both limits h e ∙ ap (λ (ls : List FateLine). map (line_after limits h e) (fates limits h) ++ ls) (fates_last limits h e l a)
 
@@ -56,7 +62,9 @@ after_none (Flushed n) = refl
 after_none Waiting = refl
 
 -- an entry that gives no fate changes no line
-pub lines_stay : (limits : Limits) (h : List Entry) (e : Entry) (lines : List FateLine) → ((lane : LaneNo) (index : ℕ) → fate_in limits h e lane index ≡ None) → map (line_after limits h e) lines ≡ lines
+pub lines_stay : (limits : Limits) (h : List Entry) (e : Entry) (lines : List FateLine)
+    → ((lane : LaneNo) (index : ℕ) → fate_in limits h e lane index ≡ None)
+    → map (line_after limits h e) lines ≡ lines
 lines_stay limits h e [] none = refl
 lines_stay limits h e (f ∷ lines) none =
     let line : Fate → FateLine = λ x. record { lane = f.lane; index = f.index; fate = x } in

@@ -18,16 +18,19 @@ mark given b f = if b then record f { fate = given } else f
 abbrev pub marked : (LaneNo → ℕ → Bool) → Fate → FateLine → FateLine
 marked test given f = mark given (test f.lane f.index) f
 
-fuse : {X : Type 0} (g h k : X → X) → ((x : X) → g (h x) ≡ k x) → (xs : List X) → map g (map h xs) ≡ map k xs
+fuse : {X : Type 0} (g h k : X → X) → ((x : X) → g (h x) ≡ k x) → (xs : List X)
+    → map g (map h xs) ≡ map k xs
 fuse g h k same [] = refl
 fuse g h k same (x ∷ xs) = ap (λ (y : _). y ∷ map g (map h xs)) (same x) ∙ ap (λ (ys : List _). k x ∷ ys) (fuse g h k same xs)
 
-marked_none : (given : Fate) (lines : List FateLine) → map (marked (λ l i. false) given) lines ≡ lines
+marked_none : (given : Fate) (lines : List FateLine)
+    → map (marked (λ l i. false) given) lines ≡ lines
 marked_none given [] = refl
 marked_none given (f ∷ lines) = ap (λ (ls : List FateLine). f ∷ ls) (marked_none given lines)
 
 -- marked once or twice is the same
-mark_twice : (test : LaneNo → ℕ → Bool) (given : Fate) (u : Bool) (f : FateLine) → marked test given (mark given u f) ≡ mark given (u || test f.lane f.index) f
+mark_twice : (test : LaneNo → ℕ → Bool) (given : Fate) (u : Bool) (f : FateLine)
+    → marked test given (mark given u f) ≡ mark given (u || test f.lane f.index) f
 mark_twice test given true f = by (test f.lane f.index)
   where
     by : (b : Bool) → mark given b (record f { fate = given }) ≡ record f { fate = given }
@@ -35,7 +38,8 @@ mark_twice test given true f = by (test f.lane f.index)
     by false = refl
 mark_twice test given false f = refl
 
-its_swap : (lane : LaneNo) (index : ℕ) (f : FateLine) → is_line_of lane index f ≡ (lane.0 == f.lane.0 && index == f.index)
+its_swap : (lane : LaneNo) (index : ℕ) (f : FateLine)
+    → is_line_of lane index f ≡ (lane.0 == f.lane.0 && index == f.index)
 its_swap lane index f = rw (eqb_swap f.lane.0 lane.0, eqb_swap f.index index) refl
 
 -- the packets of a list
@@ -51,7 +55,8 @@ each_is {X} lane_of index_of given (x ∷ xs) lines =
     (λ f. mark_twice (among lane_of index_of xs) given (is_line_of (lane_of x) (index_of x) f) f
     ∙ ap (λ (b : Bool). mark given (b || among lane_of index_of xs f.lane f.index) f) (its_swap (lane_of x) (index_of x) f)) lines
 
-pub all_is : (given : Fate) (ws : List Awaiting) (lines : List FateLine) → ended_all given ws lines ≡ map (marked (is_waiting ws) given) lines
+pub all_is : (given : Fate) (ws : List Awaiting) (lines : List FateLine)
+    → ended_all given ws lines ≡ map (marked (is_waiting ws) given) lines
 all_is given [] lines = sym (marked_none given lines)
 all_is given (a ∷ ws) lines =
     all_is given ws (ended_each given a.packets lines)

@@ -41,18 +41,22 @@ Gives limits h e test given = (lane : LaneNo) (index : ℕ) → fate_in limits h
 abbrev Waited : Limits → List Entry → (LaneNo → ℕ → Bool) → Type 0
 Waited limits h test = (lane : LaneNo) (index : ℕ) → test lane index ≡ true → fate limits h lane index ≡ Waiting
 
-line_given : (f : Fate) (next : Option Fate) (b : Bool) (given : Fate) → next ≡ (if b then Some given else None) → (b ≡ true → f ≡ Waiting) → fate_after f next ≡ (if b then given else f)
+line_given : (f : Fate) (next : Option Fate) (b : Bool) (given : Fate)
+    → next ≡ (if b then Some given else None) → (b ≡ true → f ≡ Waiting)
+    → fate_after f next ≡ (if b then given else f)
 line_given f next true given gives waited = ap (λ (o : Option Fate). fate_after f o) gives ∙ ap (λ (x : Fate). fate_after x (Some given)) (waited refl)
 line_given f next false given gives waited = ap (λ (o : Option Fate). fate_after f o) gives ∙ after_none f
 
 abbrev line : LaneNo → ℕ → Fate → FateLine
 line lane index f = record { lane = lane; index = index; fate = f }
 
-mark_line : (lane : LaneNo) (index : ℕ) (f given : Fate) (b : Bool) → line lane index (if b then given else f) ≡ mark given b (line lane index f)
+mark_line : (lane : LaneNo) (index : ℕ) (f given : Fate) (b : Bool)
+    → line lane index (if b then given else f) ≡ mark given b (line lane index f)
 mark_line lane index f given true = refl
 mark_line lane index f given false = refl
 
-lines_given : (limits : Limits) (h es : List Entry) (e : Entry) (test : LaneNo → ℕ → Bool) (given : Fate) → Gives limits h e test given → Waited limits h test
+lines_given : (limits : Limits) (h es : List Entry) (e : Entry) (test : LaneNo → ℕ → Bool) (given : Fate)
+    → Gives limits h e test given → Waited limits h test
     → map (line_after limits h e) (fates_of limits h es) ≡ map (marked test given) (fates_of limits h es)
 lines_given limits h [] e test given gives waited = refl
 lines_given limits h (Slow lane index look flow Parked ∷ es) e test given gives waited =
@@ -68,26 +72,32 @@ append_none [] = refl
 append_none (f ∷ ls) = ap (λ (gs : List FateLine). f ∷ gs) (append_none ls)
 
 -- what waits, by how often it does
-once_waits : (limits : Limits) (h : List Entry) (lane : LaneNo) (index : ℕ) → IsLegal limits h → 1 ≤ count limits h lane index → fate limits h lane index ≡ Waiting
+once_waits : (limits : Limits) (h : List Entry) (lane : LaneNo) (index : ℕ) → IsLegal limits h
+    → 1 ≤ count limits h lane index → fate limits h lane index ≡ Waiting
 once_waits limits h lane index l some = (legal_known limits lane index h l).waits some
 
-waiting_waits : (limits : Limits) (h : List Entry) (lane : LaneNo) (index : ℕ) → IsLegal limits h → is_waiting (waiting limits h) lane index ≡ true → fate limits h lane index ≡ Waiting
+waiting_waits : (limits : Limits) (h : List Entry) (lane : LaneNo) (index : ℕ) → IsLegal limits h
+    → is_waiting (waiting limits h) lane index ≡ true → fate limits h lane index ≡ Waiting
 waiting_waits limits h lane index l is =
     let some : 0 < count limits h lane index = ltb-true 0 (count limits h lane index) (sym (waiting_times lane index (waiting limits h)) ∙ is) in
     once_waits limits h lane index l (omega (arith, some))
 
-given_waited : (limits : Limits) (h : List Entry) (e : Entry) (lane : LaneNo) (index : ℕ) (f : Fate) → fate_in limits h e lane index ≡ Some f → Moves limits h e lane index → 1 ≤ count limits h lane index
+given_waited : (limits : Limits) (h : List Entry) (e : Entry) (lane : LaneNo) (index : ℕ) (f : Fate)
+    → fate_in limits h e lane index ≡ Some f → Moves limits h e lane index
+    → 1 ≤ count limits h lane index
 given_waited limits h e lane index f p (inl s) = let none = s.none in cc
 given_waited limits h e lane index f p (inr (inl s)) = let once = s.waited in omega (arith, once)
 given_waited limits h e lane index f p (inr (inr s)) = let none = s.none in cc
 
 -- the packets that a good call flushes
-flushes_is : (limits : Limits) (g : List Entry) (d : DaemonNo) (r : Request) (ids : List ReleasedId) (lane : LaneNo) (index : ℕ) → flushes limits g (Call d r Good ids) lane index ≡ (drops_all r && is_waiting (waiting limits g) lane index)
+flushes_is : (limits : Limits) (g : List Entry) (d : DaemonNo) (r : Request) (ids : List ReleasedId) (lane : LaneNo) (index : ℕ)
+    → flushes limits g (Call d r Good ids) lane index ≡ (drops_all r && is_waiting (waiting limits g) lane index)
 flushes_is limits g d Finish ids lane index = refl
 flushes_is limits g d (Flush bits) ids lane index = refl
 flushes_is limits g d r ids lane index = refl
 
-pub fates_released : (limits : Limits) (h : List Entry) (d : DaemonNo) (r : Request) (ids : List ReleasedId) → IsLegal limits h → CallAgrees limits h d r Good ids → drops_all r ≡ false
+pub fates_released : (limits : Limits) (h : List Entry) (d : DaemonNo) (r : Request) (ids : List ReleasedId)
+    → IsLegal limits h → CallAgrees limits h d r Good ids → drops_all r ≡ false
     → fates limits (h ++ Call d r Good ids ∷ []) ≡ released_each (length h + 1) ids (fates limits h)
 fates_released limits h d r ids l a keeps =
     fates_both limits h e
@@ -111,12 +121,14 @@ fates_released limits h d r ids l a keeps =
         let is : fate_in limits h e lane index ≡ Some given = gives lane index ∙ ap (λ (b : Bool). if b then Some given else None) named in
         once_waits limits h lane index l (given_waited limits h e lane index given is (legal_moves limits h e lane index l a))
 
-none_released : (limits : Limits) (s : State) (d : DaemonNo) (r : Request) → drops_all r ≡ true → released_in limits s d r ≡ []
+none_released : (limits : Limits) (s : State) (d : DaemonNo) (r : Request) → drops_all r ≡ true
+    → released_in limits s d r ≡ []
 none_released limits s d Finish p = refl
 none_released limits s d (Flush bits) p = refl
 none_released limits s d r p = cc
 
-pub fates_flushed : (limits : Limits) (h : List Entry) (d : DaemonNo) (r : Request) (ids : List ReleasedId) → IsLegal limits h → CallAgrees limits h d r Good ids → drops_all r ≡ true
+pub fates_flushed : (limits : Limits) (h : List Entry) (d : DaemonNo) (r : Request) (ids : List ReleasedId)
+    → IsLegal limits h → CallAgrees limits h d r Good ids → drops_all r ≡ true
     → fates limits (h ++ Call d r Good ids ∷ []) ≡ ended_all (Flushed (length h + 1)) (waiting limits h) (fates limits h)
 fates_flushed limits h d r ids l a drops =
     fates_both limits h e
@@ -193,35 +205,42 @@ fates_expired limits h d ms l =
         let split = times_split young lane index (waiting limits h) in
         once_waits limits h lane index l (omega (arith, some, split))
 
-none_by_call : (limits : Limits) (h : List Entry) (d : DaemonNo) (reply : Reply) (r : Request) (ids : List ReleasedId) (lane : LaneNo) (index : ℕ) → is_without_fates (Call d r reply ids) ≡ true → fate_in limits h (Call d r reply ids) lane index ≡ None
+none_by_call : (limits : Limits) (h : List Entry) (d : DaemonNo) (reply : Reply) (r : Request) (ids : List ReleasedId) (lane : LaneNo) (index : ℕ)
+    → is_without_fates (Call d r reply ids) ≡ true
+    → fate_in limits h (Call d r reply ids) lane index ≡ None
 none_by_call limits h d Good r ids lane index p = cc
 none_by_call limits h d reply Finish ids lane index p = refl
 none_by_call limits h d reply (Flush bits) ids lane index p = refl
 none_by_call limits h d reply r ids lane index p = refl
 
-none_given : (limits : Limits) (h : List Entry) (e : Entry) (lane : LaneNo) (index : ℕ) → is_without_fates e ≡ true → fate_in limits h e lane index ≡ None
+none_given : (limits : Limits) (h : List Entry) (e : Entry) (lane : LaneNo) (index : ℕ)
+    → is_without_fates e ≡ true → fate_in limits h e lane index ≡ None
 none_given limits h (Call d r reply ids) lane index p = none_by_call limits h d reply r ids lane index p
 none_given limits h (Tick d ms) lane index p = cc
 none_given limits h e lane index p = refl
 
-none_parked : (limits : Limits) (k : List Entry) (e : Entry) → is_without_fates e ≡ true → fates_of limits k (e ∷ []) ≡ []
+none_parked : (limits : Limits) (k : List Entry) (e : Entry) → is_without_fates e ≡ true
+    → fates_of limits k (e ∷ []) ≡ []
 none_parked limits k (Slow lane index look flow Parked) p = cc
 none_parked limits k e p = refl
 
-pub fates_same : (limits : Limits) (h : List Entry) (e : Entry) → is_without_fates e ≡ true → fates limits (h ++ e ∷ []) ≡ fates limits h
+pub fates_same : (limits : Limits) (h : List Entry) (e : Entry) → is_without_fates e ≡ true
+    → fates limits (h ++ e ∷ []) ≡ fates limits h
 fates_same limits h e p =
     fates_both limits h e
     ∙ ap (λ (ls : List FateLine). map (line_after limits h e) (fates limits h) ++ ls) (none_parked limits (h ++ e ∷ []) e p)
     ∙ append_none (map (line_after limits h e) (fates limits h))
     ∙ lines_stay limits h e (fates limits h) (λ lane index. none_given limits h e lane index p)
 
-pub fates_parked : (limits : Limits) (h : List Entry) (lane : LaneNo) (index look : ℕ) (flow : Flow) → IsLegal limits h → Agrees limits h (Slow lane index look flow Parked)
+pub fates_parked : (limits : Limits) (h : List Entry) (lane : LaneNo) (index look : ℕ) (flow : Flow)
+    → IsLegal limits h → Agrees limits h (Slow lane index look flow Parked)
     → fates limits (h ++ Slow lane index look flow Parked ∷ []) ≡ fates limits h ++ waiting_line lane index ∷ []
 fates_parked limits h lane index look flow l a =
     fates_push limits h (Slow lane index look flow Parked) l a
     ∙ ap (λ (ls : List FateLine). ls ++ waiting_line lane index ∷ []) (lines_stay limits h (Slow lane index look flow Parked) (fates limits h) (λ m i. refl))
 
-pub expired_first : (now : ℕ) (a : Awaiting) (ws : List Awaiting) → nat_lt (now - a.since) 10000 ≡ false → expired now (a ∷ ws) ≡ a ∷ expired now ws
+pub expired_first : (now : ℕ) (a : Awaiting) (ws : List Awaiting)
+    → nat_lt (now - a.since) 10000 ≡ false → expired now (a ∷ ws) ≡ a ∷ expired now ws
 expired_first now a ws aged = rw aged refl
 
 -- a filter that takes one out leaves fewer
@@ -234,7 +253,8 @@ filter_fewer test (a ∷ ws) =
       | false ↦ omega (arith, more)
     ]
 
-none_left : (test : Awaiting → Bool) (ws : List Awaiting) → length ws ≤ length (filter test ws) → filter (λ a. not (test a)) ws ≡ []
+none_left : (test : Awaiting → Bool) (ws : List Awaiting) → length ws ≤ length (filter test ws)
+    → filter (λ a. not (test a)) ws ≡ []
 none_left test [] same = refl
 none_left test (a ∷ ws) same = by (test a) same (λ more. none_left test ws more)
   where

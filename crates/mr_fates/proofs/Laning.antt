@@ -17,10 +17,12 @@ use Rattle.mr_fates.specs.Lines.{lane_count, IsNext}
 use Rattle.mr_fates.proofs.Ending.{fates_end}
 use Rattle.mr_fates.proofs.Located.{tally, tally_counts}
 
-more_packets : (lane : LaneNo) (e : Entry) (es : List Entry) → packets lane (e ∷ es) ≡ (if is_of_lane lane e then packets_in e else 0) + packets lane es
+more_packets : (lane : LaneNo) (e : Entry) (es : List Entry)
+    → packets lane (e ∷ es) ≡ (if is_of_lane lane e then packets_in e else 0) + packets lane es
 more_packets lane e es = sum_by-cons (λ (x : Entry). if is_of_lane lane x then packets_in x else 0) e es
 
-lines_fit : (limits : Limits) (k es : List Entry) (lane : LaneNo) → tally lane (fates_of limits k es) ≤ packets lane es
+lines_fit : (limits : Limits) (k es : List Entry) (lane : LaneNo)
+    → tally lane (fates_of limits k es) ≤ packets lane es
 lines_fit limits k [] lane = omega arith
 lines_fit limits k (Slow l index look flow Parked ∷ es) lane =
     let more : tally lane (fates_of limits k es) ≤ packets lane es = lines_fit limits k es lane in
@@ -36,7 +38,8 @@ lines_fit limits k (e ∷ es) lane =
     let all = more_packets lane e es in
     omega (arith, all, more)
 
-pub lane_fits : (limits : Limits) (h : List Entry) (lane : LaneNo) → lane_count lane (fates limits h) ≤ packets lane h
+pub lane_fits : (limits : Limits) (h : List Entry) (lane : LaneNo)
+    → lane_count lane (fates limits h) ≤ packets lane h
 lane_fits limits h lane =
     let few = lines_fit limits h h lane in
     omega (arith, few, tally_counts lane (fates limits h))
@@ -45,11 +48,13 @@ lane_fits limits h lane =
 abbrev UpTo : LaneNo → ℕ → List FateLine → Type 0
 UpTo lane last lines = AllByRecursion (λ f. (f.lane.0 == lane.0) ≡ true → f.index ≤ last) lines
 
-up_to_more : (lane : LaneNo) (m n : ℕ) (lines more : List FateLine) → m ≤ n → UpTo lane m lines → UpTo lane n more → UpTo lane n (lines ++ more)
+up_to_more : (lane : LaneNo) (m n : ℕ) (lines more : List FateLine) → m ≤ n → UpTo lane m lines
+    → UpTo lane n more → UpTo lane n (lines ++ more)
 up_to_more lane m n [] more le all last = last
 up_to_more lane m n (f ∷ lines) more le all last = ((λ its. let here = all.0 its in omega (arith, here, le)), up_to_more lane m n lines more le all.1 last)
 
-last_up_to : (limits : Limits) (k g : List Entry) (e : Entry) (lane : LaneNo) → UpTo lane (last_index lane (g ++ e ∷ [])) (fates_of limits k (e ∷ []))
+last_up_to : (limits : Limits) (k g : List Entry) (e : Entry) (lane : LaneNo)
+    → UpTo lane (last_index lane (g ++ e ∷ [])) (fates_of limits k (e ∷ []))
 last_up_to limits k g (Slow l index look flow Parked) lane = (
   (λ its.
       let is : last_index lane (g ++ Slow l index look flow Parked ∷ []) ≡ index =
@@ -59,7 +64,8 @@ last_up_to limits k g (Slow l index look flow Parked) lane = (
 )
 last_up_to limits k g e lane = tt
 
-lines_up_to : (limits : Limits) (lane : LaneNo) (h : List Entry) → IsLegal limits h → (k : List Entry) → UpTo lane (last_index lane h) (fates_of limits k h)
+lines_up_to : (limits : Limits) (lane : LaneNo) (h : List Entry) → IsLegal limits h
+    → (k : List Entry) → UpTo lane (last_index lane h) (fates_of limits k h)
 lines_up_to limits lane h l =
     legal_induction limits (λ g. (k : List Entry) → UpTo lane (last_index lane g) (fates_of limits k g)) (λ k. tt)
     (λ g e legal a all k.
@@ -67,9 +73,11 @@ lines_up_to limits lane h l =
     (up_to_more lane (last_index lane g) (last_index lane (g ++ e ∷ [])) (fates_of limits k g) (fates_of limits k (e ∷ [])) (index_rises limits g e lane a) (all k) (last_up_to limits k g e lane)))
     h l
 
-next_above : (lane : LaneNo) (last index : ℕ) (lines : List FateLine) → last < index → UpTo lane last lines → IsNext lane index lines
+next_above : (lane : LaneNo) (last index : ℕ) (lines : List FateLine) → last < index
+    → UpTo lane last lines → IsNext lane index lines
 next_above lane last index [] above all = tt
 next_above lane last index (f ∷ lines) above all = ((λ its. let here = all.0 its in omega (arith, here, above)), next_above lane last index lines above all.1)
 
-pub lane_next : (limits : Limits) (h : List Entry) (lane : LaneNo) (index : ℕ) → IsLegal limits h → last_index lane h < index → IsNext lane index (fates limits h)
+pub lane_next : (limits : Limits) (h : List Entry) (lane : LaneNo) (index : ℕ) → IsLegal limits h
+    → last_index lane h < index → IsNext lane index (fates limits h)
 lane_next limits h lane index l above = next_above lane (last_index lane h) index (fates limits h) above (lines_up_to limits lane h l h)

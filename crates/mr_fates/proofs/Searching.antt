@@ -12,13 +12,15 @@ use Rattle.mr_fates.specs.declared.lane.Place.{Place}
 use Rattle.mr_fates.specs.Lanes.{no_place, index_at, IsRising, line_in}
 
 -- the first place with the index is found
-pub found_at : (l : List Place) (k i : ℕ) → i < length l → index_at l i ≡ k → ((j : ℕ) → j < i → index_at l j ≢ k) → line_in l k ≡ Some (get_or l i no_place).line
+pub found_at : (l : List Place) (k i : ℕ) → i < length l → index_at l i ≡ k
+    → ((j : ℕ) → j < i → index_at l j ≢ k) → line_in l k ≡ Some (get_or l i no_place).line
 found_at [] k i within has other = absurd (omega (arith, within))
 found_at (p ∷ l) k zero within has other = rw (eq-eqb p.index k has) refl
 found_at (p ∷ l) k (suc i) within has other =
     rw (ne_eqb p.index k (other 0 (omega arith))) (found_at l k i (omega (arith, within)) has (λ j lt. other (suc j) (omega (arith, lt))))
 
-pub found_nowhere : (l : List Place) (k : ℕ) → ((j : ℕ) → j < length l → index_at l j ≢ k) → line_in l k ≡ None
+pub found_nowhere : (l : List Place) (k : ℕ) → ((j : ℕ) → j < length l → index_at l j ≢ k)
+    → line_in l k ≡ None
 found_nowhere [] k other = refl
 found_nowhere (p ∷ l) k other =
     rw (ne_eqb p.index k (other 0 (omega arith))) (found_nowhere l k (λ j lt. other (suc j) (omega (arith, lt))))
@@ -51,11 +53,13 @@ pub rising_tail : (p : Place) (l : List Place) → IsRising (p ∷ l) → IsRisi
 rising_tail p l rising i j lt within = rising (suc i) (suc j) (omega (arith, lt)) (omega (arith, within))
 
 -- what is above at each place is above in all
-pub all_above : (m : ℕ) (l : List Place) → ((j : ℕ) → j < length l → m < index_at l j) → AllByRecursion (λ q. m < q.index) l
+pub all_above : (m : ℕ) (l : List Place) → ((j : ℕ) → j < length l → m < index_at l j)
+    → AllByRecursion (λ q. m < q.index) l
 all_above m [] above = tt
 all_above m (p ∷ l) above = (above 0 (omega arith), all_above m l (λ j lt. above (suc j) (omega (arith, lt))))
 
-pub head_below : (p : Place) (l : List Place) → IsRising (p ∷ l) → AllByRecursion (λ q. p.index < q.index) l
+pub head_below : (p : Place) (l : List Place) → IsRising (p ∷ l)
+    → AllByRecursion (λ q. p.index < q.index) l
 head_below p l rising = all_above p.index l (λ j lt. rising 0 (suc j) (omega arith) (omega (arith, lt)))
 
 pub above_none : (m : ℕ) (l : List Place) → AllByRecursion (λ q. m < q.index) l → line_in l m ≡ None
@@ -63,10 +67,12 @@ above_none m [] above = refl
 above_none m (p ∷ l) above = rw (ne_eqb p.index m (λ same. omega (arith, above.0, same))) (above_none m l above.1)
 
 -- a place above all others goes last
-pub below_at : (m : ℕ) (l : List Place) (i : ℕ) → AllByRecursion (λ q. q.index < m) l → i < length l → index_at l i < m
+pub below_at : (m : ℕ) (l : List Place) (i : ℕ) → AllByRecursion (λ q. q.index < m) l
+    → i < length l → index_at l i < m
 below_at m [] i below within = absurd (omega (arith, within))
 below_at m (p ∷ l) zero below within = below.0
 below_at m (p ∷ l) (suc i) below within = below_at m l i below.1 (omega (arith, within))
 
-pub rising_push : (l : List Place) (p : Place) → AllByRecursion (λ q. q.index < p.index) l → IsRising l → IsRising (l ++ p ∷ [])
+pub rising_push : (l : List Place) (p : Place) → AllByRecursion (λ q. q.index < p.index) l
+    → IsRising l → IsRising (l ++ p ∷ [])
 rising_push l p below rising i j lt within = grind (arith, common_steps, rising i j, below_at p.index l i below)

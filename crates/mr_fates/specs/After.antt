@@ -17,7 +17,7 @@ use Rattle.mr_model.specs.VifList.{has_flag}
 use Rattle.mr_model.specs.WaitingList.{Waiter, Awaiting}
 use Rattle.mr_fates.specs.Lines.{waiting_line, ended}
 
--- a line once entry e stands behind the history h: its packet has the fate that e gives it, if it waited
+-- a line once entry e stands behind the history h: a packet that waited has the fate that e gives
 abbrev pub line_after : Limits → List Entry → Entry → FateLine → FateLine
 line_after limits h e f = record f { fate = fate_after f.fate (fate_in limits h e f.lane f.index) }
 
@@ -42,7 +42,8 @@ released_each n released lines = fold (λ before r. ended r.lane r.index (Releas
 abbrev pub expired : ℕ → List Awaiting → List Awaiting
 expired now waiting = filter (λ a. not (nat_lt (now - a.since) 10000)) waiting
 
--- whether a request, where it is granted, drops all packets that wait: MRT_DONE, and MRT_FLUSH with flag 1
+-- whether a request, where it is granted, drops all packets that wait: MRT_DONE does, and
+-- MRT_FLUSH with flag 1
 abbrev pub drops_all : Request → Bool
 drops_all Finish = true
 drops_all (Flush bits) = has_flag bits 1

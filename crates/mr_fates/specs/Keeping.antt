@@ -14,7 +14,8 @@ pub record IsLaneOf (lines : List FateLine) (n : ℕ) (lane : PlaceList) : Type 
 
 pub record IsKept (lines : List FateLine) (lanes : List PlaceList) (capacity : ℕ) : Type 0 where
   -- lane 1 stands first
-  pub each : (i : ℕ) (lane : PlaceList) → slice_get lanes i ≡ Some lane → IsLaneOf lines (i + 1) lane
+  pub each : (i : ℕ) (lane : PlaceList) → slice_get lanes i ≡ Some lane
+      → IsLaneOf lines (i + 1) lane
   pub owned : AllByRecursion (λ f. (1 ≤ f.lane.0) × (f.lane.0 ≤ length lanes)) lines
   pub counted : length lines ≡ sum_by (λ lane. length lane.places) lanes
   pub bounded : sum_by (λ lane. lane.room) lanes ≤ MOST_PACKETS

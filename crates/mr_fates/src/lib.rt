@@ -1,5 +1,5 @@
-//! The fates of packets that had to wait, as a list of lines in the order in which they were parked:
-//! the object that keeps them, and the laws by which one more entry of a history changes them.
+//! The fates of packets that had to wait, as a list of lines in the order of their parking: the
+//! object that keeps them, and the laws by which one more entry of a history changes them.
 #![tactic(auto)]
 
 mod fates;

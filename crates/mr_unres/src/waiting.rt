@@ -175,6 +175,8 @@ impl Waiting {
         ensures some { IfSome result (λ e. self.old.entries ≡ e ∷ self.new.entries) }
         ensures expired { IfSome result (λ e. is_young now e ≡ false) }
         ensures none { IfNone result (filter (is_young now) self.old.entries ≡ self.old.entries) }
+        ensures all_young { IfNone result (unexpired now (awaiting self.old.entries)
+            ≡ awaiting self.old.entries) }
         ensures stays { IfNone result (self.new ≡ self.old) }
         ensures limit { self.new.limit ≡ self.old.limit }
         ensures young { unexpired now (awaiting self.new.entries)

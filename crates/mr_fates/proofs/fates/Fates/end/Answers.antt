@@ -6,7 +6,8 @@ use Rattle.mr_fates.proofs.Kept.{kept_ended}
 use Rattle.mr_fates.proofs.Located.{end_alone, ended_none}
 use Rattle.mr_fates.proofs.fates.Fates.end.Goals as goal
 
-stands : (c : goal.After-self-1) → StandsAlone c.args.lane c.args.index c.self.inside.lines.items c.in-Some.line
+stands : (c : goal.After-self-1)
+    → StandsAlone c.args.lane c.args.index c.self.inside.lines.items c.in-Some.line
 stands c = subst (λ (v : FateList). StandsAlone c.args.lane c.args.index v.lines c.in-Some.line) (sym c.self.view_is) c.in-Some.ensures.stands
 
 pub invariant_of-self : goal.invariant_of-self

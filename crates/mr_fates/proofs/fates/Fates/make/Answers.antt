@@ -16,7 +16,8 @@ loop-room-init c = (
   subst (λ (ls : List PlaceList). AllByRecursion (λ l. l.places ≡ []) ls) (sym c.in_ok-lanes.ensures.items) tt,
 )
 
-more : (c : goal.In_ok-push) → c.loop-room.total + slice_index_or c.args.packets.now c.loop-room.room-index 0 ≡ sum (take (c.loop-room.room-index + 1) c.args.packets.now)
+more : (c : goal.In_ok-push)
+    → c.loop-room.total + slice_index_or c.args.packets.now c.loop-room.room-index 0 ≡ sum (take (c.loop-room.room-index + 1) c.args.packets.now)
 more c =
     let step = sum_by_more (λ n. n) c.args.packets.now c.loop-room.room-index 0 c.loop-room-test.true in
     omega (arith, step, c.loop-room.invariant.0)

@@ -30,7 +30,8 @@ unreachable-requires c =
     cc
 
 -- the lane, with one place more
-placed : (c : goal.In-Ok) → c.push.new.self ≡ with_place c.index_mut.result.now c.args.index (length c.self.inside.lines.items)
+placed : (c : goal.In-Ok)
+    → c.push.new.self ≡ with_place c.index_mut.result.now c.args.index (length c.self.inside.lines.items)
 placed c = c.push.ensures ∙ ap (λ (ls : List FateLine). with_place c.index_mut.result.now c.args.index (length ls)) c.as_slice.ensures.value
 
 pub invariant_of-self : goal.invariant_of-self

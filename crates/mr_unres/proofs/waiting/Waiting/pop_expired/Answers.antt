@@ -12,6 +12,11 @@ returns-then-is_young_at-clause-none c =
     (young_all c.args.now c.self.inside.slots.items c.in_ok-place.place c.is_young_at.result c.in_ok-place.ensures.first
     c.is_young_at.ensures c.if-is_young_at.true c.self.invariant.rising)
 
+pub returns-then-is_young_at-clause-all_young : goal.returns-then-is_young_at-clause-all_young
+returns-then-is_young_at-clause-all_young c =
+    awaiting_filter (λ a. nat_lt (c.args.now - a.since) 10000) c.args.self.now.entries
+    ∙ ap awaiting (returns-then-is_young_at-clause-none c)
+
 pub take-entry-requires : goal.take-entry-requires
 take-entry-requires c =
     let s : StandsFirst c.self.inside.slots.items c.in_ok-place.place = c.in_ok-place.ensures.first in
