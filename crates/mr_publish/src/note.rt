@@ -1,0 +1,39 @@
+use crate::front::Front;
+use crate::names::PairName;
+use std::marker::Model;
+
+ghost use Rattle.std.specs.Prelude.{◌≡◌};
+ghost use Rattle.mr_publish.specs.Lists.{last_number};
+
+/// What was published when the note was made. Contracts see the changes.
+#[derive(Drop)]
+pub struct Note<J: PairName> {
+    pub(crate) front: Front<J>,
+}
+
+impl<J: PairName> Model for Note<J> {
+    ghost use Rattle.std.specs.Prelude.{List};
+    ghost use Rattle.mr_model.specs.declared.change.Change.{Change};
+
+    ghost Value = { List Change };
+
+    ghost view = { λ n. n.front };
+}
+
+impl<J: PairName> Note<J> {
+    /// A copy, for another looker.
+    pub fn again(&self) -> Note<J>
+        ensures { result ≡ self.now }
+    {
+        Note {
+            front: self.front.again(),
+        }
+    }
+
+    /// The number of the last change, or 0.
+    pub fn version(&self) -> u32
+        ensures { result ≡ last_number 0 self.now }
+    {
+        self.front.version()
+    }
+}
