@@ -58,7 +58,8 @@ impl Mark {
     #[inline(always)]
     pub fn named<J: PairName>(&self) -> Front<J>
         requires { self.now.list ≡ J.list }
-        ensures { result ≡ self.now.changes }
+        ensures changes { result ≡ self.now.changes }
+        ensures rise { NumbersRise 0 result }
     {
         Front {
             version: self.version,

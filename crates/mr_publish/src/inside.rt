@@ -23,6 +23,7 @@ pub struct Inside<J: PairName> {
 
 impl<J: PairName> Model for Inside<J> {
     ghost use Rattle.std.specs.Prelude.{◌≡◌};
+    ghost use Rattle.mr_model.specs.Numbers.{NumbersRise};
     ghost use Rattle.mr_publish.specs.Copies.{tables_after};
     ghost use Rattle.mr_publish.specs.Values.{Sight};
 
@@ -30,7 +31,8 @@ impl<J: PairName> Model for Inside<J> {
 
     ghost view = { λ i. record { seen = i.seen; learnt = i.learnt; refusals = i.refusals } };
 
-    ghost invariant = { λ i. i.reading.part.value.tables ≡ tables_after J.start i.seen };
+    ghost invariant = { λ i. (i.reading.part.value.tables ≡ tables_after J.start i.seen)
+        × NumbersRise 0 i.seen };
 }
 
 impl<J: PairName> Inside<J> {

@@ -29,13 +29,14 @@ pub struct Looker<J: PairName> {
 
 impl<J: PairName> Model for Looker<J> {
     ghost use Rattle.std.specs.Prelude.{IsSome};
+    ghost use Rattle.mr_model.specs.Numbers.{NumbersRise};
     ghost use Rattle.mr_publish.specs.Values.{Sight};
 
     ghost Value = { Sight };
 
     ghost view = { λ l. record { seen = l.seen; learnt = l.learnt; refusals = l.refusals } };
 
-    ghost invariant = { λ l. IsSome l.reader };
+    ghost invariant = { λ l. IsSome l.reader × NumbersRise 0 l.seen };
 }
 
 impl<J: PairName> Looker<J> {
@@ -60,18 +61,13 @@ impl<J: PairName> Looker<J> {
         let Some(reader) = self.reader.take() else {
             unreachable!()
         };
-        match reader.enter_as::<Sees<J>>() {
-            Err(reader) => self.reader = Some(reader),
-            Ok(reading) => {
-                let copy = reading.get();
-                let front = copy.mark.named::<J>();
-                let verdict = copy.tables.decide(dev, src, dst, ttl);
-                self.reader = Some(reading.leave());
-                if self.seen.begins(&front) && self.learnt.begins(&front) {
-                    let number = front.version();
-                    self.seen = front;
-                    return Some((number, verdict));
-                }
+        let (reader, found) = glance(reader, dev, src, dst, ttl);
+        self.reader = Some(reader);
+        if let Some((front, verdict)) = found {
+            if self.seen.begins(&front) && self.learnt.begins(&front) {
+                let number = front.version();
+                self.seen = front;
+                return Some((number, verdict));
             }
         }
         self.refusals = self.refusals.saturating_add(1);
@@ -160,5 +156,28 @@ impl<J: PairName> Looker<J> {
         ensures { result ≡ self.now.refusals }
     {
         self.refusals
+    }
+}
+
+/// Enters the copy and leaves it: what is published there, and its verdict on a packet.
+#[inline(always)]
+fn glance<J: PairName>(
+    reader: CopyReader<J>,
+    dev: u32,
+    src: Addr,
+    dst: Addr,
+    ttl: u8,
+) -> (CopyReader<J>, Option<(Front<J>, Verdict)>)
+    ensures { IfSome result.1 (λ r.
+        r.1 ≡ verdict_of (tables_after J.start r.0) dev src dst ttl) }
+{
+    match reader.enter_as::<Sees<J>>() {
+        Err(reader) => (reader, None),
+        Ok(reading) => {
+            let copy = reading.get();
+            let front = copy.mark.named::<J>();
+            let verdict = copy.tables.decide(dev, src, dst, ttl);
+            (reading.leave(), Some((front, verdict)))
+        }
     }
 }

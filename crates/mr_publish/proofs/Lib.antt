@@ -1,0 +1,4 @@
+pub mod Prefixes
+pub mod Rising
+pub mod Adding
+pub mod Fitting
