@@ -1,5 +1,5 @@
 -- Changes that fit, one after another.
-use Rattle.std.proofs.Common.{◌≡◌, ℕ, true, List, [], ◌∷◌, ◌++◌, refl, sym, ◌∙◌}
+use Rattle.std.proofs.Common.{◌≡◌, ℕ, true, List, [], ◌∷◌, ◌++◌, refl, ap, sym, ◌∙◌, append_assoc}
 use Rattle.std.specs.List.{fold}
 use Rattle.std.proofs.lemmas.List.Sums.{fold-append}
 use Rattle.mr_model.specs.declared.change.Change.{Change}
@@ -21,3 +21,9 @@ all_taken v (c ∷ cs) fit = rw (fit.0) (all_taken (applied v c) cs fit.1)
 pub taken_behind : (v : TablesValue) (ds cs : List Change) → FitInTurn (fold applied v ds) cs
     → fold taken (fold applied v ds) cs ≡ fold applied v (ds ++ cs)
 taken_behind v ds cs fit = all_taken (fold applied v ds) cs fit ∙ sym (fold-append applied v ds cs)
+
+-- the last of them is applied to the tables after the others
+pub last_applied : (v : TablesValue) (ds cs : List Change) (c : Change)
+    → fold applied v (ds ++ (cs ++ c ∷ [])) ≡ applied (fold applied v (ds ++ cs)) c
+last_applied v ds cs c =
+    ap (fold applied v) (sym (append_assoc ds cs (c ∷ []))) ∙ fold-append applied v (ds ++ cs) (c ∷ [])

@@ -16,6 +16,9 @@ mod note;
 mod opened;
 mod pair;
 mod publisher;
+#[cfg(test)]
+mod tests;
+mod worked;
 
 pub use inside::Inside;
 pub use looker::Looker;
@@ -24,3 +27,4 @@ pub use note::Note;
 pub use opened::OpenedList;
 pub use pair::publish_pair;
 pub use publisher::Publisher;
+pub use worked::{worked_lists, worked_looks};

@@ -120,6 +120,13 @@ impl<J: PairName> Publisher<J> {
         self.front.version()
     }
 
+    /// The number of the last staged change, or else of the last published one, or 0.
+    pub fn newest(&self) -> u32
+        ensures { result ≡ last_number 0 (self.now.published ++ self.now.staged) }
+    {
+        self.newest
+    }
+
     /// Spends the publisher. Lookers count each further look as refused.
     pub fn end<R: Wait>(self, rt: &R) {
         let Publisher {
