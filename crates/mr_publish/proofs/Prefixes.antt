@@ -1,5 +1,5 @@
 -- Beginnings of one list of changes whose numbers rise.
-use Rattle.std.proofs.Common.{◌≡◌, ℕ, ◌<◌, ◌≤◌, List, [], ◌∷◌, ◌++◌, length, refl, ap, subst, sym, ◌∙◌, arith, length-append}
+use Rattle.std.proofs.Common.{◌≡◌, ℕ, ◌<◌, ◌≤◌, List, [], ◌∷◌, length, refl, ap, subst, sym, ◌∙◌, arith, length-append}
 use mathlib.Core.List.{IsPrefix}
 use Rattle.mr_model.specs.declared.change.Change.{Change}
 use Rattle.mr_model.specs.Numbers.{NumbersRise}
@@ -48,8 +48,8 @@ lower_begins n (x ∷ xs) (y ∷ ys) (z ∷ zs) rise p q le =
     let x_is : x ≡ z = cc (p.1) in
     let y_is : y ≡ z = cc (q.1) in
     let le' : last_number z.number xs ≤ last_number z.number ys =
-        subst (λ (c : Change). last_number c.number xs ≤ last_number z.number ys) x_is
-        (subst (λ (c : Change). last_number x.number xs ≤ last_number c.number ys) y_is le) in
+    subst (λ (c : Change). last_number c.number xs ≤ last_number z.number ys) x_is
+    (subst (λ (c : Change). last_number x.number xs ≤ last_number c.number ys) y_is le) in
     let rest = lower_begins z.number xs ys zs rise.1 (p.0, cc (p.1)) (q.0, cc (q.1)) le' in
     (rest.0, cc (x_is, y_is, rest.1))
 

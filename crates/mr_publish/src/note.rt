@@ -1,9 +1,9 @@
+ghost use Rattle.std.specs.Prelude.{◌≡◌};
+ghost use Rattle.mr_publish.specs.Lists.{last_number};
+
 use crate::front::Front;
 use crate::names::PairName;
 use std::marker::Model;
-
-ghost use Rattle.std.specs.Prelude.{◌≡◌};
-ghost use Rattle.mr_publish.specs.Lists.{last_number};
 
 /// What was published when the note was made. Contracts see the changes.
 #[derive(Drop)]

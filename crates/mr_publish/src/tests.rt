@@ -9,12 +9,11 @@ use mr_model::{MfcCtl, MfcKey, Request, Verdict, VifCtl};
 use mr_tables::Tables;
 use std::alloc::Global;
 use std::marker::{Brand, Model};
-use std::mem;
 use std::process::Abort;
 use std::sync::Wait;
 use std::test::*;
-use std::thread;
 use std::thread::Threads;
+use std::{mem, thread};
 
 /// The devices eth0 and eth1, numbered 1 and 2.
 const DEVICES: [Device; 2] = [
@@ -267,7 +266,11 @@ fn publish_many<J: PairName, R: Wait>(rt: &R, kept: &mut Option<Control<J>>) -> 
     };
     let mut all = true;
     for number in 1..MANY + 1 {
-        let request = if number % 2 == 0 { del_mfc() } else { add_mfc() };
+        let request = if number % 2 == 0 {
+            del_mfc()
+        } else {
+            add_mfc()
+        };
         let staged = control.stage(number, &request);
         control = control.publish(rt);
         all = all && staged;

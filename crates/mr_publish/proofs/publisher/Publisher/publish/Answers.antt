@@ -1,6 +1,3 @@
-use Rattle.std.proofs.Common.{sym, ◌∙◌, ap}
-use Rattle.std.specs.List.{fold}
-use Rattle.mr_publish.specs.Copies.{taken, tables_after}
 use Rattle.mr_publish.proofs.Fitting.{taken_behind}
 use Rattle.mr_publish.proofs.publisher.Publisher.publish.Goals as goal
 

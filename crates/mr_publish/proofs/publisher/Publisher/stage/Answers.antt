@@ -2,8 +2,7 @@ use Rattle.std.proofs.Common.{◌≡◌, ◌<◌, ◌++◌, ◌∷◌, [], true,
 use Rattle.std.specs.List.{fold}
 use Rattle.std.proofs.lemmas.List.Sums.{fold-append}
 use Rattle.mr_model.specs.declared.change.Change.{Change}
-use Rattle.mr_model.specs.Numbers.{NumbersRise}
-use Rattle.mr_tables.specs.Fitting.{fits, FitInTurn}
+use Rattle.mr_tables.specs.Fitting.{fits}
 use Rattle.mr_tables.specs.Values.{applied}
 use Rattle.mr_publish.specs.Copies.{tables_after}
 use Rattle.mr_publish.specs.Lists.{last_number}
@@ -20,7 +19,7 @@ invariant_of-self-2 g c =
     let all : List Change = inside.front ++ inside.staged.items in
     let items : c.push-pushed.new.self.items ≡ inside.staged.items ++ change ∷ [] = c.in-Ok.ensures.items in
     let fit : fits (fold applied (tables_after g.J.PairName.start inside.front) inside.staged.items) change ≡ true =
-        ap (λ v. fits v change) (sym (fold-append applied g.J.PairName.start inside.front inside.staged.items)) ∙ subst (λ (v : Published). fits (tables_after g.J.PairName.start (v.published ++ v.staged)) change ≡ true) (sym c.self.view_is) c.requires.fits in
+    ap (λ v. fits v change) (sym (fold-append applied g.J.PairName.start inside.front inside.staged.items)) ∙ subst (λ (v : Published). fits (tables_after g.J.PairName.start (v.published ++ v.staged)) change ≡ true) (sym c.self.view_is) c.requires.fits in
     let assoc : inside.front ++ (inside.staged.items ++ change ∷ []) ≡ all ++ change ∷ [] = sym (append_assoc inside.front inside.staged.items (change ∷ [])) in
     rw (items) (
       inv.0,
