@@ -10,8 +10,9 @@ use mr_base::Addr;
 use mr_model::Verdict;
 use std::marker::Model;
 
-/// A looker in the published copy, by which it decides on packets. It must be left: while it is
-/// not, the publisher waits at its next publishing but one.
+/// A looker in the published copy, by which it decides on packets. It must be left. While it is
+/// not, the publisher can publish once; it waits where it would publish again, and at its end. So
+/// it is left before its thread waits for a lock under which the publisher lies.
 ///
 /// Contracts see what they see of the looker.
 pub struct Inside<J: PairName> {

@@ -27,4 +27,4 @@ pub use note::Note;
 pub use opened::OpenedList;
 pub use pair::publish_pair;
 pub use publisher::Publisher;
-pub use worked::{worked_lists, worked_looks};
+pub use worked::{worked_lists, worked_looks, worked_rule};

@@ -74,8 +74,7 @@ impl<J: PairName> Looker<J> {
         None
     }
 
-    /// Enters the published copy, for the verdicts on several packets. The publisher waits at its
-    /// next publishing but one until it is left.
+    /// Enters the published copy, for the verdicts on several packets.
     ///
     /// # Errors
     ///
@@ -142,6 +141,15 @@ impl<J: PairName> Looker<J> {
         ensures same { IsTrue result → self.now.seen ≡ note.now }
     {
         self.seen.is(&note.front)
+    }
+
+    /// A note of what was seen.
+    pub fn seen(&self) -> Note<J>
+        ensures { result ≡ self.now.seen }
+    {
+        Note {
+            front: self.seen.again(),
+        }
     }
 
     /// The number of the last change that was seen, or 0.

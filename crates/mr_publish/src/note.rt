@@ -1,4 +1,6 @@
-ghost use Rattle.std.specs.Prelude.{◌≡◌};
+ghost use Rattle.std.specs.Prelude.{◌≡◌, nat_le, MatchBool, ⊤};
+ghost use mathlib.Core.List.{IsPrefix};
+ghost use Rattle.mr_model.specs.Numbers.{NumbersRise};
 ghost use Rattle.mr_publish.specs.Lists.{last_number};
 
 use crate::front::Front;
@@ -30,9 +32,20 @@ impl<J: PairName> Note<J> {
         }
     }
 
+    /// Whether the other's last change is the later one, or the same. Of two notes of one publisher
+    /// one begins the other: this says which.
+    pub fn begins(&self, other: &Note<J>) -> bool
+        ensures is { result ≡ nat_le (last_number 0 self.now) (last_number 0 other.now) }
+        ensures begins { MatchBool result (IsPrefix self.now other.now) ⊤ }
+        ensures begun { MatchBool result ⊤ (IsPrefix other.now self.now) }
+    {
+        self.front.begins(&other.front)
+    }
+
     /// The number of the last change, or 0.
     pub fn version(&self) -> u32
-        ensures { result ≡ last_number 0 self.now }
+        ensures number { result ≡ last_number 0 self.now }
+        ensures rise { NumbersRise 0 self.now }
     {
         self.front.version()
     }

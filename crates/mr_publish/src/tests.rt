@@ -182,7 +182,9 @@ fn row<J: PairName, R: Wait + Abort>(
     assert!(rt; control.stage(2, &vif(0)));
     assert!(rt; control.stage(3, &vif(1)));
     let mut control = control.publish(rt);
-    looker.learn(control.publisher.note());
+    let note = control.publisher.note();
+    assert!(rt; !looker.sees(&note) && !note.begins(&looker.seen()));
+    looker.learn(note);
     assert_eq!(rt; look(&mut looker), Some((3, Verdict::Miss { vif: 0 })));
     assert!(rt; control.stage(4, &add_mfc()));
     assert_eq!(rt; look(&mut looker), Some((3, Verdict::Miss { vif: 0 })));
@@ -194,7 +196,8 @@ fn row<J: PairName, R: Wait + Abort>(
         outs: Mask(0b10),
     };
     assert_eq!(rt; look(&mut looker), Some((4, forward)));
-    assert!(rt; looker.sees(&control.publisher.note()));
+    let note = control.publisher.note();
+    assert!(rt; looker.sees(&note) && looker.seen().begins(&note));
     let mut looker = look_inside(rt, looker, forward);
     control.end(rt);
     assert_eq!(rt; look(&mut looker), None);

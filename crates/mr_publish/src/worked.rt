@@ -1,8 +1,9 @@
 //! The definitions on worked values.
-ghost use Rattle.std.specs.Prelude.{◌≡◌, ◌-◌, ◌^◌, [], ◌∷◌, Some};
+ghost use Rattle.std.specs.Prelude.{◌≡◌, ◌-◌, ◌^◌, true, [], ◌∷◌, Some};
 ghost use Rattle.mr_model.specs.declared.verdict.Verdict.TheVariants.{Forward, Miss, NoVif};
 ghost use Rattle.mr_publish.specs.Copies.{taken, tables_after};
 ghost use Rattle.mr_publish.specs.Lists.{last_number, later};
+ghost use Rattle.mr_publish.specs.Rules.{IsKept};
 ghost use Rattle.mr_publish.specs.Values.{first_sight, one_more, refused};
 ghost use Rattle.mr_publish.specs.WorkedCopies as worked;
 
@@ -16,6 +17,14 @@ pub fn worked_looks()
     ensures fits { taken worked.start worked.two ≡ tables_after worked.start (worked.two ∷ []) }
     ensures passed_over { taken (tables_after worked.start (worked.two ∷ [])) worked.two
         ≡ tables_after worked.start (worked.two ∷ []) }
+{}
+
+/// The rule of the list: its word is the number of the last change, and the numbers rise. It does
+/// nothing.
+pub fn worked_rule()
+    ensures kept { IsKept ((3, true) ∷ (0, true) ∷ []) (worked.two ∷ worked.three ∷ []) }
+    ensures other_word { ¬ IsKept ((2, true) ∷ (0, true) ∷ []) (worked.two ∷ worked.three ∷ []) }
+    ensures no_rise { ¬ IsKept ((2, true) ∷ (0, true) ∷ []) (worked.three ∷ worked.two ∷ []) }
 {}
 
 /// The last number of changes, the later of two lists, and how a refused look is counted. It does
