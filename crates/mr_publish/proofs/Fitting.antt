@@ -13,7 +13,8 @@ one_more_fits v [] c fit more = (more, tt)
 one_more_fits v (d ∷ cs) c fit more = (fit.0, one_more_fits (applied v d) cs c fit.1 more)
 
 -- none of them is passed over
-pub all_taken : (v : TablesValue) (cs : List Change) → FitInTurn v cs → fold taken v cs ≡ fold applied v cs
+pub all_taken : (v : TablesValue) (cs : List Change) → FitInTurn v cs
+    → fold taken v cs ≡ fold applied v cs
 all_taken v [] fit = refl
 all_taken v (c ∷ cs) fit = rw (fit.0) (all_taken (applied v c) cs fit.1)
 
@@ -26,4 +27,5 @@ taken_behind v ds cs fit = all_taken (fold applied v ds) cs fit ∙ sym (fold-ap
 pub last_applied : (v : TablesValue) (ds cs : List Change) (c : Change)
     → fold applied v (ds ++ (cs ++ c ∷ [])) ≡ applied (fold applied v (ds ++ cs)) c
 last_applied v ds cs c =
-    ap (fold applied v) (sym (append_assoc ds cs (c ∷ []))) ∙ fold-append applied v (ds ++ cs) (c ∷ [])
+    ap (fold applied v) (sym (append_assoc ds cs (c ∷ [])))
+    ∙ fold-append applied v (ds ++ cs) (c ∷ [])

@@ -1,5 +1,9 @@
 -- Beginnings of one list of changes whose numbers rise.
-use Rattle.std.proofs.Common.{◌≡◌, ℕ, ◌<◌, ◌≤◌, List, [], ◌∷◌, length, refl, ap, subst, sym, ◌∙◌, arith, length-append}
+use Rattle.std.proofs.Common.{◌≡◌, ℕ, ◌<◌, ◌≤◌, nat_le, Bool, true, false, MatchBool}
+use Rattle.std.proofs.Common.{List, [], ◌∷◌, length, length-append}
+use Rattle.std.proofs.Common.{refl, ap, subst, sym, ◌∙◌, arith}
+use Rattle.std.proofs.lemmas.Bool.Decides.{nat_tests}
+use Rattle.std.specs.Bool.{⊤}
 use mathlib.Core.List.{IsPrefix}
 use Rattle.mr_model.specs.declared.change.Change.{Change}
 use Rattle.mr_model.specs.Numbers.{NumbersRise}
@@ -36,7 +40,8 @@ prefix_rises n (x ∷ xs) (y ∷ ys) p rise =
     (first.0, prefix_rises x.number xs ys (p.0, cc (p.1)) first.1)
 
 -- of two beginnings of one list that with the lower last number begins the other
-pub lower_begins : (n : ℕ) (xs ys zs : List Change) → NumbersRise n zs → IsPrefix xs zs → IsPrefix ys zs
+pub lower_begins : (n : ℕ) (xs ys zs : List Change)
+    → NumbersRise n zs → IsPrefix xs zs → IsPrefix ys zs
     → last_number n xs ≤ last_number n ys → IsPrefix xs ys
 lower_begins n [] ys zs rise p q le = (ys, refl)
 lower_begins n (x ∷ xs) [] zs rise p q le =
@@ -52,6 +57,18 @@ lower_begins n (x ∷ xs) (y ∷ ys) (z ∷ zs) rise p q le =
     (subst (λ (c : Change). last_number x.number xs ≤ last_number c.number ys) y_is le) in
     let rest = lower_begins z.number xs ys zs rise.1 (p.0, cc (p.1)) (q.0, cc (q.1)) le' in
     (rest.0, cc (x_is, y_is, rest.1))
+
+-- by the test of their last numbers m and n
+pub begins_by : (m n : ℕ) (xs ys zs : List Change) → m ≡ last_number 0 xs → n ≡ last_number 0 ys
+    → NumbersRise 0 zs → IsPrefix xs zs → IsPrefix ys zs
+    → (b : Bool) → nat_le m n ≡ b
+    → MatchBool b (IsPrefix xs ys) ⊤ × MatchBool b ⊤ (IsPrefix ys xs)
+begins_by m n xs ys zs m_is n_is rise p q true is =
+    let le : last_number 0 xs ≤ last_number 0 ys = grind (arith, nat_tests, m_is, n_is) in
+    (lower_begins 0 xs ys zs rise p q le, tt)
+begins_by m n xs ys zs m_is n_is rise p q false is =
+    let le : last_number 0 ys ≤ last_number 0 xs = grind (arith, nat_tests, m_is, n_is) in
+    (tt, lower_begins 0 ys xs zs rise q p le)
 
 -- of two beginnings of one list with the same last number the one is the other
 pub same_last : (xs ys zs : List Change) → NumbersRise 0 zs → IsPrefix xs zs → IsPrefix ys zs

@@ -1,6 +1,6 @@
--- Tables with room for four entries and the devices eth0 and eth1, and the changes with the numbers
--- 2, 3 and 4: the vifs 0 and 1, and the entry for packets of 10.0.0.9 to 239.1.1.1, which it takes
--- on vif 0 and sends on vif 1 above the threshold 1.
+-- Tables with room for four entries and the devices eth0 and eth1, and the changes with the
+-- numbers 2, 3 and 4: the vifs 0 and 1, and the entry for packets of 10.0.0.9 to 239.1.1.1, which
+-- it takes on vif 0 and sends on vif 1 above the threshold 1.
 use Rattle.std.specs.Prelude.{ℕ, false, List, [], ◌∷◌, replicate}
 use Rattle.mr_base.specs.declared.numbers.Addr.{Addr}
 use Rattle.mr_model.specs.declared.change.Change.{Change}

@@ -4,4 +4,5 @@ use Rattle.mr_publish.proofs.copies.take_changes.Given as goal
 
 -- the changes that are left make of the tables what all make of the first
 abbrev pub invariant-loop-change : goal.invariant-loop-change
-invariant-loop-change l = fold taken l.tables (drop l.change-index l.fn.changes) ≡ fold taken l.fn.tables l.fn.changes
+invariant-loop-change l =
+    fold taken l.tables (drop l.change-index l.fn.changes) ≡ fold taken l.fn.tables l.fn.changes

@@ -7,16 +7,23 @@ use Rattle.mr_publish.proofs.front.add.Goals as goal
 
 pub compare_exchange-requires : goal.compare_exchange-requires
 compare_exchange-requires g c =
-    let h = c.args.head.now.head_is in
+    let head = c.args.head.now.head_is in
+    let list = c.requires.list ∙ sym (ap (λ w. w.book) head) in
     let offer = c.plain-offer.ensures in
     let pen = c.no_pen-pen.ensures in
-    let v = c.args.seen.now.log in
+    let seen = c.args.seen.now.log in
+    let more = g.X.Batched.changes in
     let batch = c.requires.batch in
-    let last : last_number 0 (v ++ g.X.Batched.changes) ≡ c.from-2.result = ap (λ cs. last_number 0 (v ++ cs)) batch ∙ (sym c.requires.newest ∙ sym c.from-2.ensures) in
-    let rise : NumbersRise 0 (v ++ g.X.Batched.changes) = subst (λ cs. NumbersRise 0 (v ++ cs)) (sym batch) c.requires.rise in (
-      ap (λ w. w.tracked) h,
-      c.requires.list ∙ sym (ap (λ w. w.book) h),
-      pen.0 ∙ (c.requires.list ∙ sym (ap (λ w. w.book) h)),
+    let last : last_number 0 (seen ++ more) ≡ c.from-2.result =
+    ap (λ cs. last_number 0 (seen ++ cs)) batch
+    ∙ (sym c.requires.newest ∙ sym c.from-2.ensures) in
+    let rise : NumbersRise 0 (seen ++ more) =
+    subst (λ cs. NumbersRise 0 (seen ++ cs)) (sym batch) c.requires.rise in
+    let version = sym c.requires.version ∙ sym c.from.ensures in (
+      ap (λ w. w.tracked) head,
+      list,
+      pen.0 ∙ list,
       offer.0,
-      rw (ap (λ w. w.key) h, pen.1, offer.3) (adds_moves v g.X.Batched.changes no_change c.from.result c.from-2.result (sym c.requires.version ∙ sym c.from.ensures) last rise),
+      rw (ap (λ w. w.key) head, pen.1, offer.3)
+          (adds_moves seen more no_change c.from.result c.from-2.result version last rise),
     )

@@ -1,7 +1,6 @@
-use Rattle.std.proofs.Common.{◌≡◌, ◌<◌, ◌++◌, ◌∷◌, [], true, List, sym, ◌∙◌, ap, subst, append_assoc}
+use Rattle.std.proofs.Common.{◌≡◌, ◌<◌, ◌++◌, ◌∷◌, [], true, sym, ◌∙◌, ap, subst, append_assoc}
 use Rattle.std.specs.List.{fold}
 use Rattle.std.proofs.lemmas.List.Sums.{fold-append}
-use Rattle.mr_model.specs.declared.change.Change.{Change}
 use Rattle.mr_tables.specs.Fitting.{fits}
 use Rattle.mr_tables.specs.Values.{applied}
 use Rattle.mr_publish.specs.Copies.{tables_after}
@@ -13,18 +12,25 @@ use Rattle.mr_publish.proofs.publisher.Publisher.stage.Goals as goal
 
 pub invariant_of-self-2 : goal.invariant_of-self-2
 invariant_of-self-2 g c =
-    let inside = c.self.inside in
+    let start = g.J.PairName.start in
+    let front = c.self.inside.front in
+    let staged = c.self.inside.staged.items in
     let inv = c.self.invariant in
     let change = c.args.change.now in
-    let all : List Change = inside.front ++ inside.staged.items in
-    let items : c.push-pushed.new.self.items ≡ inside.staged.items ++ change ∷ [] = c.in-Ok.ensures.items in
-    let fit : fits (fold applied (tables_after g.J.PairName.start inside.front) inside.staged.items) change ≡ true =
-    ap (λ v. fits v change) (sym (fold-append applied g.J.PairName.start inside.front inside.staged.items)) ∙ subst (λ (v : Published). fits (tables_after g.J.PairName.start (v.published ++ v.staged)) change ≡ true) (sym c.self.view_is) c.requires.fits in
-    let assoc : inside.front ++ (inside.staged.items ++ change ∷ []) ≡ all ++ change ∷ [] = sym (append_assoc inside.front inside.staged.items (change ∷ [])) in
-    rw (items) (
+    let fit : fits (fold applied (tables_after start front) staged) change ≡ true =
+    ap (λ v. fits v change) (sym (fold-append applied start front staged))
+    ∙ subst (λ (v : Published).
+    fits (tables_after start (v.published ++ v.staged)) change ≡ true)
+    (sym c.self.view_is) c.requires.fits in
+    let above : last_number 0 (front ++ staged) < change.number =
+    subst (λ (v : Published). last_number 0 (v.published ++ v.staged) < change.number)
+    (sym c.self.view_is) c.requires.above in
+    let all : front ++ (staged ++ change ∷ []) ≡ (front ++ staged) ++ change ∷ [] =
+    sym (append_assoc front staged (change ∷ [])) in
+    rw (c.in-Ok.ensures.items) (
       inv.0,
       inv.1,
-      one_more_fits (tables_after g.J.PairName.start inside.front) inside.staged.items change inv.2 fit,
-      rw assoc (one_more_rises 0 all change inv.3 (subst (λ (v : Published). last_number 0 (v.published ++ v.staged) < change.number) (sym c.self.view_is) c.requires.above)),
-      rw assoc (sym (one_more_last 0 all change)),
+      one_more_fits (tables_after start front) staged change inv.2 fit,
+      rw all (one_more_rises 0 (front ++ staged) change inv.3 above),
+      rw all (sym (one_more_last 0 (front ++ staged) change)),
     )
