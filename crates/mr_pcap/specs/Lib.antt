@@ -1,0 +1,3 @@
+pub mod Places
+pub mod Traces
+pub mod WorkedTraces
