@@ -9,11 +9,11 @@ use Rattle.mr_ip.proofs.Heads.{PassesEach, is_head-passes, not_outside, at_least
 use Rattle.mr_ip.proofs.Sums.{AreBytes, plus-carried}
 
 -- the plain sum of the numbers of 16 bits
-abbrev word_sum : List ℕ → ℕ
+abbrev pub word_sum : List ℕ → ℕ
 word_sum (a ∷ b ∷ bs) = a * 256 + b + word_sum bs
 word_sum _ = 0
 
-ones_sum-word_sum : (s : ℕ) (bs : List ℕ) → AreBytes bs → ones_sum (carried s) bs ≡ carried (s + word_sum bs)
+pub ones_sum-word_sum : (s : ℕ) (bs : List ℕ) → AreBytes bs → ones_sum (carried s) bs ≡ carried (s + word_sum bs)
 ones_sum-word_sum s [] all = let e : s ≡ s + 0 = omega arith in ap carried e
 ones_sum-word_sum s (a ∷ []) all = let e : s ≡ s + 0 = omega arith in ap carried e
 ones_sum-word_sum s (a ∷ b ∷ bs) all =
@@ -24,7 +24,7 @@ ones_sum-word_sum s (a ∷ b ∷ bs) all =
     ∙ ones_sum-word_sum (s + (a * 256 + b)) bs (λ k. all (suc (suc k)))
     ∙ ap carried e
 
-AreBytes-set : (bs : List ℕ) (i v : ℕ) → AreBytes bs → v < 256 → AreBytes (set bs i v)
+pub AreBytes-set : (bs : List ℕ) (i v : ℕ) → AreBytes bs → v < 256 → AreBytes (set bs i v)
 AreBytes-set [] i v all h = all
 AreBytes-set (b ∷ bs) zero v all h = λ k. elim k as (λ k. get_or (v ∷ bs) k 0 < 256) [ zero ↦ h | suc j ↦ all (suc j) ]
 AreBytes-set (b ∷ bs) (suc i) v all h =
@@ -34,7 +34,7 @@ AreBytes-set (b ∷ bs) (suc i) v all h =
     ]
 
 -- a sum with its complement added
-carried-whole : (n : ℕ) → 0 < n → carried (n + (65535 - carried n)) ≡ 65535
+pub carried-whole : (n : ℕ) → 0 < n → carried (n + (65535 - carried n)) ≡ 65535
 carried-whole n h = grind (arith, nat_tests)
 
 -- A number where zeros stood, in bytes 10 and 11, counts with the others.

@@ -1,3 +1,4 @@
 pub mod Checksums
 pub mod Heads
+pub mod SentHeads
 pub mod Sums

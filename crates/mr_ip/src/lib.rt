@@ -1,4 +1,5 @@
-//! IPv4 heads (RFC 791 section 3.1): read from the bytes of a packet, and made for one.
+//! IPv4 heads (RFC 791 section 3.1): read from the bytes of a packet, made for one, and changed to
+//! send it on.
 #![tactic(auto)]
 
 mod address;
@@ -6,6 +7,7 @@ mod cause;
 mod fields;
 mod making;
 mod reading;
+mod sending;
 mod sum;
 #[cfg(test)]
 mod tests;
@@ -14,3 +16,4 @@ pub use address::{is_bad_source, is_link_local, is_multicast};
 pub use making::make_head;
 pub use mr_base::HeadError;
 pub use reading::read_head;
+pub use sending::sent_head;

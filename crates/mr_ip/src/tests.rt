@@ -86,3 +86,35 @@ fn made(rt: HostRuntime) {
         (28, 2, Addr(0x0A00_0009), Addr(0xEF01_0101))
     );
 }
+
+#[test]
+fn sent_on(rt: HostRuntime) -> Result<(), Fail> {
+    let head = sent_head(&read_head(&PACKET).ok().ok_or("the packet")?);
+    let wanted = b"\x45\0\0\x1c\0\x01\0\0\x01\x11\xbf\xc5\x0a\0\0\x09\xef\x01\x01\x01";
+    assert_eq!(rt; head.bytes.0.as_slice(), wanted.as_slice());
+    assert_eq!(rt;
+        (head.length, head.ttl, head.src, head.dst),
+        (28, 1, Addr(0x0A00_0009), Addr(0xEF01_0101))
+    );
+    let head = sent_head(&read_head(&WITH_OPTION).ok().ok_or("the option")?);
+    assert_eq!(rt;
+        &head.bytes.0.as_slice()[8..12],
+        b"\x04\x11\xe7\xb6".as_slice()
+    );
+    assert_eq!(rt; &head.bytes.0.as_slice()[20..], b"\x94\x04\0\0".as_slice());
+    Ok(())
+}
+
+/// The checksums 0xFF00 and 0xFEFF of TTL 2 become 0x0001 and 0.
+#[test]
+fn sent_with_a_carry(rt: HostRuntime) {
+    for (ident, before, after) in [(0xBFC5, [0xFF, 0], [0, 1]), (0xBFC6, [0xFE, 0xFF], [0, 0])] {
+        let head = make_head(ident, 2, Addr(0x0A00_0009), Addr(0xEF01_0101), 28);
+        assert_eq!(rt;
+            head.bytes.0.as_slice().get(10..12),
+            Some(before.as_slice())
+        );
+        let head = sent_head(&head);
+        assert_eq!(rt; head.bytes.0.as_slice().get(10..12), Some(after.as_slice()));
+    }
+}
