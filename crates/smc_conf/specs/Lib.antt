@@ -1,0 +1,7 @@
+pub mod Answers
+pub mod Forms
+pub mod Kinds
+pub mod Lines
+pub mod Ranges
+pub mod Spelled
+pub mod WorkedConfigurations

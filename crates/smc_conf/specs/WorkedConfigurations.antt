@@ -1,0 +1,2 @@
+-- Worked rows of configurations.
+use Rattle.std.specs.Prelude.{ℕ}
