@@ -16,4 +16,3 @@ bytes_plain (b ∷ w) h =
 
 pub device_clean : (w : List ℕ) → is_device_name w ≡ true → is_clean w ≡ true
 device_clean w h = bytes_plain w (and_parts (begins_name w && not (bytes_eq w (codes "pimreg"))) (list_all is_name_byte w) h).1
-

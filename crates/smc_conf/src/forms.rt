@@ -101,7 +101,11 @@ fn group_address(word: &[u8]) -> Option<u32>
     ensures { result ≡ group_address word.now }
 {
     let addr = address_of(word)?;
-    if addr / 0x1000_0000 == 0xE { Some(addr) } else { None }
+    if addr / 0x1000_0000 == 0xE {
+        Some(addr)
+    } else {
+        None
+    }
 }
 
 /// The prefix of groups that a word `G` or `G/LEN` spells.

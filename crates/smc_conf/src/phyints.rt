@@ -7,7 +7,7 @@ ghost use Rattle.smc_conf.specs.Lines.{is_named, enabled_word, nothing_behind, t
 
 use crate::conf::Phyint;
 use crate::draft::Draft;
-use crate::forms::{bad, first_of, keyword, interface_word, threshold_word};
+use crate::forms::{bad, first_of, interface_word, keyword, threshold_word};
 use crate::stop::{Kind, Stop};
 use mr_words::{name_of, next_word};
 

@@ -15,12 +15,7 @@ use mr_words::{next_word, split_line, trimmed};
 use std::alloc::Global;
 
 /// A line by its first word; the other words stand behind it.
-fn line_by_word(
-    alloc: Global,
-    draft: &mut Draft,
-    word: &[u8],
-    words: &[u8],
-) -> Result<(), Stop>
+fn line_by_word(alloc: Global, draft: &mut Draft, word: &[u8], words: &[u8]) -> Result<(), Stop>
     ensures { Steps result draft.new (line_by_word draft.old word.now (words_of words.now)) }
 {
     if word == b"phyint".as_slice() {
