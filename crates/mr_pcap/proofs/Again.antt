@@ -5,42 +5,65 @@ use Rattle.std.proofs.lemmas.List.{drop-drop, get_or-drop, length-append, length
 use Rattle.std.proofs.lemmas.List.Concat.{flat_map-cons}
 use Rattle.std.proofs.lemmas.List.Elements.{All-head, All-map, All-tail}
 use Rattle.std.proofs.Math.Seq.{take-append_seam, drop-append_seam}
-use Rattle.byteorder.specs.Numbers.{big_from-lt, little_from-lt, little_number-reads_back}
+use Rattle.byteorder.specs.Numbers.{big_from-lt, big_number-reads_back, little_from-lt, little_number-reads_back}
 use Rattle.mr_pcap.specs.declared.order.Order.{Order}
 use Rattle.mr_pcap.specs.declared.order.Order.TheVariants.{Little, Big}
 use Rattle.mr_pcap.specs.declared.link_type.LinkType.{LinkType}
 use Rattle.mr_pcap.specs.declared.link_type.LinkType.TheVariants.{Ethernet, RawIp, LinuxCooked, RawIpv4, LinuxCooked2}
 use Rattle.mr_pcap.specs.Places.{Fits, captured_at}
-use Rattle.mr_pcap.specs.Traces.{Capture, Captured, capture_of, file_bytes, header_bytes, header_of, number_at, onto_records, record_bytes, record_of, records_behind, whole_length}
+use Rattle.mr_pcap.specs.Traces.{Capture, Captured, capture_of, file_bytes, header_bytes, header_of, number_at, onto_records, record_bytes, record_in, record_of, records_behind, whole_length}
 use Rattle.mr_pcap.proofs.Records.{next_record}
 
 whole_when : (order : Order) (bs : List ℕ) (size : ℕ) → 16 + number_at order 8 bs ≡ size → size ≤ length bs → whole_length order bs ≡ Some size
 whole_when order bs size e h = grind (arith, nat_tests)
 
-pub record_again : (r : Captured) (rest : List ℕ) (n : ℕ) → Fits r
-    → records_behind Little n zero (record_bytes r ++ rest)
-    ≡ onto_records r (records_behind Little (min (n + 1) 4294967295) zero rest)
-record_again r rest n f =
-    let bs = record_bytes r ++ rest in
+pub record_again : (order : Order) (r : Captured) (rest : List ℕ) (n : ℕ) → Fits r
+    → records_behind order n zero (record_in order r ++ rest)
+    ≡ onto_records r (records_behind order (min (n + 1) 4294967295) zero rest)
+record_again Little r rest n f =
+    let bs = record_in Little r ++ rest in
     let sec = little_number-reads_back 4 r.sec [] f.sec in
     let frac = little_number-reads_back 4 r.frac [] f.frac in
     let orig = little_number-reads_back 4 r.orig [] f.orig in
     let here = little_number-reads_back 4 (length r.bytes) [] f.bytes in
-    let long : length bs ≡ 16 + (length r.bytes + length rest) = omega (arith, length-append r.bytes rest) in
+    let long : length bs ≡ 16 + (length r.bytes + length rest) =
+    omega (arith, length-append r.bytes rest) in
     let whole : whole_length Little bs ≡ Some (16 + length r.bytes) =
     whole_when Little bs (16 + length r.bytes) (ap (λ n. 16 + n) here) (omega arith) in
-    let same : record_of Little bs ≡ r = rw (sec, frac, orig, here, take-append_seam r.bytes rest) refl in
-    let behind : drop (16 + length r.bytes) bs ≡ rest = sym (drop-drop (length r.bytes) 16 bs) ∙ drop-append_seam r.bytes rest in
+    let same : record_of Little bs ≡ r =
+    rw (sec, frac, orig, here, take-append_seam r.bytes rest) refl in
+    let behind : drop (16 + length r.bytes) bs ≡ rest =
+    sym (drop-drop (length r.bytes) 16 bs) ∙ drop-append_seam r.bytes rest in
+    let others = records_behind Little (min (n + 1) 4294967295) zero in
     next_record Little n (16 + length r.bytes) bs (omega arith) whole
-    ∙ ap (λ x. onto_records x (records_behind Little (min (n + 1) 4294967295) zero (drop (16 + length r.bytes) bs))) same
-    ∙ ap (λ l. onto_records r (records_behind Little (min (n + 1) 4294967295) zero l)) behind
+    ∙ ap (λ x. onto_records x (others (drop (16 + length r.bytes) bs))) same
+    ∙ ap (λ l. onto_records r (others l)) behind
+record_again Big r rest n f =
+    let bs = record_in Big r ++ rest in
+    let sec = big_number-reads_back 4 r.sec [] f.sec in
+    let frac = big_number-reads_back 4 r.frac [] f.frac in
+    let orig = big_number-reads_back 4 r.orig [] f.orig in
+    let here = big_number-reads_back 4 (length r.bytes) [] f.bytes in
+    let long : length bs ≡ 16 + (length r.bytes + length rest) =
+    omega (arith, length-append r.bytes rest) in
+    let whole : whole_length Big bs ≡ Some (16 + length r.bytes) =
+    whole_when Big bs (16 + length r.bytes) (ap (λ n. 16 + n) here) (omega arith) in
+    let same : record_of Big bs ≡ r =
+    rw (sec, frac, orig, here, take-append_seam r.bytes rest) refl in
+    let behind : drop (16 + length r.bytes) bs ≡ rest =
+    sym (drop-drop (length r.bytes) 16 bs) ∙ drop-append_seam r.bytes rest in
+    let others = records_behind Big (min (n + 1) 4294967295) zero in
+    next_record Big n (16 + length r.bytes) bs (omega arith) whole
+    ∙ ap (λ x. onto_records x (others (drop (16 + length r.bytes) bs))) same
+    ∙ ap (λ l. onto_records r (others l)) behind
 
-pub all_again : (rs : List Captured) (n : ℕ) → All Fits rs → records_behind Little n zero (flat_map record_bytes rs) ≡ Ok rs
-all_again [] n fits = refl
-all_again (r ∷ rs) n fits =
-    ap (records_behind Little n zero) (flat_map-cons record_bytes r rs)
-    ∙ record_again r (flat_map record_bytes rs) n (All-head Fits r rs fits)
-    ∙ ap (onto_records r) (all_again rs (min (n + 1) 4294967295) (All-tail Fits r rs fits))
+pub all_again : (order : Order) (rs : List Captured) (n : ℕ) → All Fits rs
+    → records_behind order n zero (flat_map (record_in order) rs) ≡ Ok rs
+all_again order [] n fits = refl
+all_again order (r ∷ rs) n fits =
+    ap (records_behind order n zero) (flat_map-cons (record_in order) r rs)
+    ∙ record_again order r (flat_map (record_in order) rs) n (All-head Fits r rs fits)
+    ∙ ap (onto_records r) (all_again order rs (min (n + 1) 4294967295) (All-tail Fits r rs fits))
 
 at_least : (m n : ℕ) → n ≤ m → nat_lt m n ≡ false
 at_least m n h = grind (arith, nat_tests)
@@ -63,7 +86,7 @@ header_again LinuxCooked2 true rest = rw (not_cut LinuxCooked2 true rest) refl
 
 pub file_again : (c : Capture) → All Fits c.records → capture_of (file_bytes c) ≡ Ok c
 file_again c fits =
-    rw (header_again c.link c.nanos (flat_map record_bytes c.records), all_again c.records 1 fits) refl
+    rw (header_again c.link c.nanos (flat_map record_bytes c.records), all_again Little c.records 1 fits) refl
 
 -- The numbers of a record that lies in bytes fit in 32 bits.
 number_fits : (order : Order) (i : ℕ) (bs : List ℕ) → ((k : ℕ) → get_or bs k 0 < 256) → number_at order i bs < 2 ^ 32

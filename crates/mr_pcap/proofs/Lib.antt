@@ -1,3 +1,4 @@
 pub mod Again
 pub mod Records
+pub mod Spelling
 pub mod Written

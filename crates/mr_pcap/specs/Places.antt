@@ -1,5 +1,5 @@
 -- Records by where they lie in a file.
-use Rattle.std.specs.Prelude.{ℕ, ◌<◌, ◌++◌, ◌^◌, List, drop, length, All, IsSome}
+use Rattle.std.specs.Prelude.{ℕ, ◌<◌, ◌++◌, ◌^◌, List, drop, length, slice_index, All, IsSome}
 use Rattle.mr_pcap.specs.declared.order.Order.{Order}
 use Rattle.mr_pcap.specs.declared.record.Record.{Record}
 use Rattle.mr_pcap.specs.Traces.{Captured, record_of, whole_length}
@@ -19,6 +19,10 @@ captured r = record { sec = r.sec; frac = r.frac; orig = r.orig; bytes = r.bytes
 -- the packet with further bytes behind its own
 abbrev pub followed_by : Captured → List ℕ → Captured
 followed_by r rest = record r { bytes = r.bytes ++ rest }
+
+-- These numbers are bytes.
+abbrev pub AreBytes : List ℕ → Type 0
+AreBytes bs = (k : ℕ) → slice_index bs k < 256
 
 -- A record's numbers fit in the 32 bits that they have in a file.
 pub record Fits (r : Captured) : Type 0 where

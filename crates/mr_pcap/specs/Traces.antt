@@ -1,7 +1,7 @@
 -- Classic pcap files (the savefile format of libpcap): a header of 24 bytes, and then records,
 -- each a head of 16 bytes and the bytes of a packet.
 use Rattle.std.specs.Prelude.{ℕ, zero, suc, ◌+◌, ◌/◌, ◌%◌, ◌==◌, ◌&&◌, nat_lt, nat_le, if◌then◌else◌, Bool, true, false, Option, Some, None, Result, Ok, Err, ok_or, is_some, List, [], ◌∷◌, ◌++◌, length, take, drop, flat_map, min, slice_index}
-use Rattle.byteorder.specs.Endian.{big_number, little_bytes, little_number}
+use Rattle.byteorder.specs.Endian.{big_bytes, big_number, little_bytes, little_number}
 use Rattle.mr_pcap.specs.declared.header.Header.{Header}
 use Rattle.mr_pcap.specs.declared.link_type.LinkType.{LinkType}
 use Rattle.mr_pcap.specs.declared.link_type.LinkType.TheVariants.{Ethernet, RawIp, LinuxCooked, RawIpv4, LinuxCooked2}
@@ -126,10 +126,20 @@ header_bytes link nanos =
     ++ little_bytes 4 0 ++ little_bytes 4 0
     ++ little_bytes 4 65535 ++ little_bytes 4 (number_of link)
 
+-- a number of 32 bits in the file's order
+abbrev pub number_bytes : Order → ℕ → List ℕ
+number_bytes Little n = little_bytes 4 n
+number_bytes Big n = big_bytes 4 n
+
+-- The bytes of a record: seconds, fraction, how many bytes are here, how long the packet was, and
+-- then the bytes.
+abbrev pub record_in : Order → Captured → List ℕ
+record_in order r =
+    number_bytes order r.sec ++ number_bytes order r.frac
+    ++ number_bytes order (length r.bytes) ++ number_bytes order r.orig ++ r.bytes
+
 abbrev pub record_bytes : Captured → List ℕ
-record_bytes r =
-    little_bytes 4 r.sec ++ little_bytes 4 r.frac
-    ++ little_bytes 4 (length r.bytes) ++ little_bytes 4 r.orig ++ r.bytes
+record_bytes r = record_in Little r
 
 abbrev pub file_bytes : Capture → List ℕ
 file_bytes c = header_bytes c.link c.nanos ++ flat_map record_bytes c.records

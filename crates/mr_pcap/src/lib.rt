@@ -18,7 +18,7 @@ mod worked;
 mod writing;
 
 pub use frames::ip_part;
-pub use laws::written_is_read;
+pub use laws::{records_are_spelled, written_is_read};
 pub use link_type::LinkType;
 pub use pcap_error::PcapError;
 pub use reading::read;
