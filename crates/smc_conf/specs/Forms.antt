@@ -34,7 +34,10 @@ interface_word ws = do
 
 -- The prefix of an address: the bits behind the first `len` are zeros.
 abbrev pub prefix_of : ℕ → ℕ → Prefix
-prefix_of addr len = record { addr = record { 0 = addr / 2 ^ (32 - len) * 2 ^ (32 - len) }; len = len }
+prefix_of addr len = record {
+  addr = record { 0 = addr / 2 ^ (32 - len) * 2 ^ (32 - len) };
+  len = len;
+}
 
 -- The length of a prefix, by the parts behind the address: one of 0 to 32, or none for 32.
 abbrev pub length_in : List Word → Option ℕ
@@ -63,4 +66,5 @@ group_word w = do
 -- 1 to 255
 abbrev pub threshold_word : Word → Result ℕ Kind
 threshold_word w =
-    word_as (option_and_then (λ n. if nat_le 1 n then Some n else None) (number_of 255 w)) w kind.Threshold
+    word_as (option_and_then (λ n. if nat_le 1 n then Some n else None) (number_of 255 w)) w
+    kind.Threshold

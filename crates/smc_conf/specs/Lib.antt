@@ -1,4 +1,5 @@
 pub mod Answers
+pub mod Fits
 pub mod Forms
 pub mod Kinds
 pub mod Lines

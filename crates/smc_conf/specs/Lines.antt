@@ -72,7 +72,9 @@ group_line d ws = do
 -- These interfaces, and further ones.
 abbrev pub outs_from : List Word → List Word → Result (List Word) Kind
 outs_from outs [] = Ok outs
-outs_from outs (w ∷ ws) = wants (is_device_name w) (bad w kind.Interface) >>= λ _. outs_from (outs ++ w ∷ []) ws
+outs_from outs (w ∷ ws) = do
+  _ ← wants (is_device_name w) (bad w kind.Interface)
+  outs_from (outs ++ w ∷ []) ws
 
 -- `mroute from IF [source A[/LEN]] group G[/LEN] to IF ..`, one output or more
 abbrev pub rule_line : Draft → List Word → Result Draft Kind
@@ -82,4 +84,6 @@ rule_line d ws = do
   rest ← keyword (codes "to") r.2
   _ ← first_of rest
   outs ← outs_from [] rest
-  Ok (record d { rules = d.rules ++ record { input = i.0; source = r.0; group = r.1; outs = outs } ∷ [] })
+  Ok (record d {
+    rules = d.rules ++ record { input = i.0; source = r.0; group = r.1; outs = outs } ∷ [];
+  })

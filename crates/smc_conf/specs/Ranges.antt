@@ -1,4 +1,5 @@
--- Sources and groups: `[source A[/LEN]] group G[/LEN]`, in either order. Without `source` it is 0.0.0.0/0.
+-- Sources and groups: `[source A[/LEN]] group G[/LEN]`, in either order. Without `source` it is
+-- 0.0.0.0/0.
 use Rattle.std.specs.Prelude.{if◌then◌else◌, Result, Ok, Err, List, [], ◌∷◌, bytes_eq, codes}
 use Rattle.mr_words.specs.Binds.{◌>>=◌}
 use Rattle.smc_conf.specs.Forms.{Word, first_of, keyword, source_word, group_word}

@@ -18,7 +18,8 @@ line_by_word d w ws =
     else (if bytes_eq w (codes "mroute") then rule_line d ws
     else Err kind.Word))
 
--- what a line of these words makes of the draft, or what is wrong with it; one without words is passed over
+-- what a line of these words makes of the draft, or what is wrong with it; one without words is
+-- passed over
 abbrev pub line_of : Draft → List Word → Result Draft Kind
 line_of d [] = Ok d
 line_of d (w ∷ ws) = line_by_word d w ws
@@ -34,7 +35,9 @@ at_line n (Err k) = Err (error.Bad n k)
 -- the draft after lines of which the first has number n, or the first bad line
 abbrev pub draft_from : ℕ → Draft → List (List ℕ) → Result Draft ConfError
 draft_from n d [] = Ok d
-draft_from n d (l ∷ ls) = at_line n (line_of d (words_of (without_return l))) >>= λ t. draft_from (next_line n) t ls
+draft_from n d (l ∷ ls) = do
+  t ← at_line n (line_of d (words_of (without_return l)))
+  draft_from (next_line n) t ls
 
 abbrev pub empty_draft : Draft
 empty_draft = record { phyints = []; enabled = 0; groups = []; rules = [] }

@@ -43,8 +43,8 @@ office_conf = record {
       } ∷ [];
 }
 
--- The bits behind a prefix are taken off, source and group come in either order, a carriage return is
--- taken off, and the last line may lack its line feed.
+-- The bits behind a prefix are taken off, source and group come in either order, a carriage return
+-- is taken off, and the last line may lack its line feed.
 abbrev pub joins : List ℕ
 joins =
     codes "phyint a disable ttl-threshold 255" ++ 13 ∷ 10 ∷ 9

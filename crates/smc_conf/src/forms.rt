@@ -43,7 +43,8 @@ pub fn keyword<'a>(name: &[u8], words: &'a [u8]) -> Result<&'a [u8], Kind>
 
 /// The name of an interface as the first word, and what stands behind it.
 pub fn interface_word(words: &[u8]) -> Result<(&[u8], &[u8]), Kind>
-    ensures name { Gives (λ x. (x.0.now, words_of x.1.now)) result (interface_word (words_of words.now)) }
+    ensures name { Gives (λ x. (x.0.now, words_of x.1.now)) result
+        (interface_word (words_of words.now)) }
     ensures clean { IfOk result (λ x. is_clean x.0.now ≡ true) }
     ensures short { IfOk result (λ x. length x.0.now ≤ 255) }
 {

@@ -1,5 +1,5 @@
-//! Configurations of smcroute: interfaces, groups and rules, what the lines of a text spell, and the
-//! reader that gives it.
+//! Configurations of smcroute: interfaces, groups and rules, what the lines of a text spell, and
+//! the reader that gives it.
 #![tactic(auto)]
 
 mod conf;

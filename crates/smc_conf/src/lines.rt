@@ -18,7 +18,8 @@ use std::alloc::Global;
 
 /// `from IF`, and what stands behind it.
 fn from_interface(words: &[u8]) -> Result<(&[u8], &[u8]), Kind>
-    ensures name { Gives (λ x. (x.0.now, words_of x.1.now)) result (from_interface (words_of words.now)) }
+    ensures name { Gives (λ x. (x.0.now, words_of x.1.now)) result
+        (from_interface (words_of words.now)) }
     ensures clean { IfOk result (λ x. is_clean x.0.now ≡ true) }
     ensures short { IfOk result (λ x. length x.0.now ≤ 255) }
 {

@@ -19,7 +19,8 @@ const ANY: Prefix = Prefix {
 
 /// Behind `source`: its prefix, and the group.
 fn source_first(words: &[u8]) -> Result<(Prefix, Prefix, &[u8]), Kind>
-    ensures { Gives (λ x. (x.0, x.1, words_of x.2.now)) result (source_first (words_of words.now)) }
+    ensures { Gives (λ x. (x.0, x.1, words_of x.2.now)) result
+        (source_first (words_of words.now)) }
 {
     let (source, rest) = first_of(words)?;
     let source = source_word(source)?;
@@ -31,7 +32,8 @@ fn source_first(words: &[u8]) -> Result<(Prefix, Prefix, &[u8]), Kind>
 
 /// Behind a group: perhaps its source.
 fn source_behind(group: Prefix, words: &[u8]) -> Result<(Prefix, Prefix, &[u8]), Kind>
-    ensures { Gives (λ x. (x.0, x.1, words_of x.2.now)) result (source_behind group (words_of words.now)) }
+    ensures { Gives (λ x. (x.0, x.1, words_of x.2.now)) result
+        (source_behind group (words_of words.now)) }
 {
     match next_word(words) {
         Some((word, rest)) if word == b"source".as_slice() => {
@@ -45,7 +47,8 @@ fn source_behind(group: Prefix, words: &[u8]) -> Result<(Prefix, Prefix, &[u8]),
 
 /// Behind `group`: its prefix, and perhaps the source.
 fn group_first(words: &[u8]) -> Result<(Prefix, Prefix, &[u8]), Kind>
-    ensures { Gives (λ x. (x.0, x.1, words_of x.2.now)) result (group_first (words_of words.now)) }
+    ensures { Gives (λ x. (x.0, x.1, words_of x.2.now)) result
+        (group_first (words_of words.now)) }
 {
     let (group, rest) = first_of(words)?;
     let group = group_word(group)?;
@@ -54,7 +57,8 @@ fn group_first(words: &[u8]) -> Result<(Prefix, Prefix, &[u8]), Kind>
 
 /// The source and the group with which words begin, and what stands behind them.
 pub fn range_of(words: &[u8]) -> Result<(Prefix, Prefix, &[u8]), Kind>
-    ensures { Gives (λ x. (x.0, x.1, words_of x.2.now)) result (range_of (words_of words.now)) }
+    ensures { Gives (λ x. (x.0, x.1, words_of x.2.now)) result
+        (range_of (words_of words.now)) }
 {
     let (word, rest) = first_of(words)?;
     if word == b"source".as_slice() {

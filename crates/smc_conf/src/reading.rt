@@ -1,8 +1,9 @@
 //! A configuration is read from its bytes.
 
-ghost use Rattle.std.specs.Prelude.{◌≡◌};
+ghost use Rattle.std.specs.Prelude.{◌≡◌, IfOk};
 ghost use Rattle.mr_words.specs.Words.{lines_of, words_of};
 ghost use Rattle.smc_conf.specs.Answers.{Gets, Steps};
+ghost use Rattle.smc_conf.specs.Fits.{Fits};
 ghost use Rattle.smc_conf.specs.Spelled.{draft_from, empty_draft, line_by_word, line_of, spelled};
 
 use crate::conf::Conf;
@@ -49,6 +50,7 @@ fn line_of(alloc: Global, draft: &mut Draft, words: &[u8]) -> Result<(), Stop>
 /// left; `Memory` where there is none.
 pub fn read(alloc: Global, bytes: &[u8]) -> Result<Conf, ConfError>
     ensures spelled { Gets result (spelled bytes.now) }
+    ensures fits { IfOk result Fits }
 {
     let mut draft = Draft {
         phyints: List(Vec::new(alloc)),

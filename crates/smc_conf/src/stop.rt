@@ -13,7 +13,8 @@ pub enum Kind {
     Word,
     /// An address is malformed, or a group is outside 224.0.0.0/4.
     Address,
-    /// A name is malformed, an interface was named by an earlier `phyint`, or is a 33rd enabled one.
+    /// A name is malformed, an interface was named by an earlier `phyint`, or it is a 33rd enabled
+    /// one.
     Interface,
     /// The length of a prefix is malformed or above 32.
     Prefix,
