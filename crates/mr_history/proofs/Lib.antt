@@ -1,0 +1,7 @@
+mod Numbering
+mod Kept
+mod Summing
+mod Gathering
+mod Journaling
+mod Bearing
+mod Interleaving

@@ -1,0 +1,11 @@
+pub mod Numbers
+pub mod Rising
+pub mod Fits
+pub mod Journals
+pub mod Seen
+pub mod Small
+pub mod StoreValues
+pub mod Stores
+pub mod Totals
+pub mod Keeping
+pub mod Merged
