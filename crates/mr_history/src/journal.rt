@@ -125,6 +125,7 @@ impl Journal {
     pub fn facts(&self)
         ensures vifs { length self.now.vifs ≡ VIFS }
         ensures limits { FitsLimits self.now.limits }
+        ensures few { length self.now.entries ≤ 2 ^ 24 }
     {
         let _ = &self.limits;
     }

@@ -25,7 +25,7 @@ abbrev pub KeepsPark : Limits → List Entry → (List Awaiting → Type 0) → 
 KeepsPark limits g P =
     (lane : LaneNo) (index look : ℕ) (flow : Flow) → Agrees limits g (Slow lane index look flow outcome.Parked) → P (state limits g).waiting → P (park (state limits g).waiting (state limits g).now (record { lane = lane; index = index; flow = flow }))
 
-granted_waiting : (limits : Limits) (s : State) (d : DaemonNo) (r : Request) (P : List Awaiting → Type 0) → P [] → KeepsFilter P → P s.waiting → P (granted limits s d r).waiting
+pub granted_waiting : (limits : Limits) (s : State) (d : DaemonNo) (r : Request) (P : List Awaiting → Type 0) → P [] → KeepsFilter P → P s.waiting → P (granted limits s d r).waiting
 granted_waiting limits s d Finish P none part p = none
 granted_waiting limits s d (Flush bits) P none part p =
     elim (has_flag bits 1) as (λ b. P (if b then [] else s.waiting)) [ true ↦ none | false ↦ p ]

@@ -159,6 +159,7 @@ impl Waiting {
     pub fn pop(&mut self) -> Option<Unresolved>
         ensures some { IfSome result (λ e. self.old.entries ≡ e ∷ self.new.entries) }
         ensures none { IfNone result (self.old.entries ≡ []) }
+        ensures stays { IfNone result (self.new ≡ self.old) }
         ensures limit { self.new.limit ≡ self.old.limit }
     {
         let place = self.slots.first_from(self.oldest)?;
