@@ -1,0 +1,17 @@
+pub mod Lists
+pub mod Judging
+pub mod Freeing
+pub mod Known
+pub mod Naming
+pub mod Ending
+pub mod Holds
+pub mod Recording
+pub mod Slowly
+pub mod Planning
+pub mod Grants
+pub mod ChangesRoutes
+pub mod ChangesVifs
+pub mod Walks
+pub mod Calls
+pub mod Replies
+pub mod Closings
