@@ -5,6 +5,7 @@
 mod deciding;
 mod devices;
 mod entries;
+mod flags;
 mod interfaces;
 mod laws;
 mod tables;
@@ -12,6 +13,9 @@ mod tables;
 mod tests;
 mod worked;
 
+pub use flags::{
+    MRT_FLUSH_MFC, MRT_FLUSH_MFC_STATIC, MRT_FLUSH_VIFS, MRT_FLUSH_VIFS_STATIC, has_flag,
+};
 pub use laws::{
     changes_apply, entry_applies, good_call_applies, legal_changes_fit, number_is_above,
 };

@@ -4,7 +4,6 @@ ghost use Rattle.std.specs.Prelude.{◌≡◌, ◌≤◌, not, length, IsTrue, I
 ghost use Rattle.mr_model.specs.Granting.{sets_tables, tables_error, what_of, numbered};
 ghost use Rattle.mr_model.specs.declared.change.What.TheVariants as what;
 ghost use Rattle.mr_model.specs.Tables.{no_tables};
-ghost use Rattle.mr_model.specs.VifList.{has_flag};
 ghost use Rattle.mr_model.specs.Verdict.{judge_in, verdict_in};
 ghost use Rattle.mr_mfc.specs.Caches.{is_above};
 ghost use Rattle.mr_tables.specs.Values.{applied};
@@ -12,6 +11,9 @@ ghost use Rattle.mr_tables.specs.Fitting.{fits};
 
 use crate::deciding::{decide, judge};
 use crate::entries::{entry_to_delete, mfc_to_add, proxy_to_add, proxy_to_delete};
+use crate::flags::{
+    MRT_FLUSH_MFC, MRT_FLUSH_MFC_STATIC, MRT_FLUSH_VIFS, MRT_FLUSH_VIFS_STATIC, has_flag,
+};
 use crate::interfaces::{MAXVIFS, vif_to_add, vif_to_delete};
 use mr_base::{Addr, Device, Errno, Few, Memory, Route, VifRecord};
 use mr_mfc::{Cache, MOST_SLOTS};
@@ -22,15 +24,6 @@ use std::marker::Model;
 
 /// The most devices that tables can be given.
 pub const MOST_DEVICES: usize = mr_base::MOST_DEVICES;
-
-/// Flush flags (mroute.h): entries that are not static.
-const MRT_FLUSH_MFC: u32 = 1;
-/// Static entries.
-const MRT_FLUSH_MFC_STATIC: u32 = 2;
-/// Vifs that are not static.
-const MRT_FLUSH_VIFS: u32 = 4;
-/// Static vifs.
-const MRT_FLUSH_VIFS_STATIC: u32 = 8;
 
 /// The tables of the forwarder (ipmr.c, `struct mr_table`): vifs, entries, and the switches pim and
 /// assert, with the devices that calls can mean.
@@ -313,11 +306,4 @@ impl Tables {
     {
         &self.cache
     }
-}
-
-/// Whether one of the flags in `bits` is set.
-fn has_flag(flags: u32, bits: u32) -> bool
-    ensures { result ≡ has_flag flags bits }
-{
-    flags & bits != 0
 }
