@@ -1,7 +1,9 @@
 -- The limits for which a journal can be made.
 use Rattle.std.specs.Prelude.{◌≤◌, length, sum}
 use Rattle.mr_model.specs.declared.limits.Limits.{Limits}
-use Rattle.mr_history.specs.declared.most.TheConstants.{MOST_ENTRIES, MOST_UNRESOLVED, MOST_CONTROLS, MOST_PHASES, MOST_PACKETS, MOST_LANES, MOST_DAEMONS, MOST_DEVICES}
+use Rattle.mr_history.specs.declared.most.TheConstants.{MOST_ENTRIES, MOST_UNRESOLVED}
+use Rattle.mr_history.specs.declared.most.TheConstants.{MOST_CONTROLS, MOST_PHASES, MOST_PACKETS}
+use Rattle.mr_history.specs.declared.most.TheConstants.{MOST_LANES, MOST_DAEMONS, MOST_DEVICES}
 
 pub record FitsLimits (limits : Limits) : Type 0 where
   pub some_entries : 1 ≤ limits.entries

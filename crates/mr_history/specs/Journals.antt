@@ -1,11 +1,13 @@
 -- What contracts see of a journal: the history, and whose totals it keeps.
-use Rattle.std.specs.Prelude.{ℕ, ◌≤◌, ◌==◌, Bool, false, if◌then◌else◌, Option, Some, None, option_map, List, [], ◌∷◌, ◌++◌, slice_index_or}
+use Rattle.std.specs.Prelude.{ℕ, ◌≤◌, ◌==◌, Bool, false, if◌then◌else◌, Option, Some, None}
+use Rattle.std.specs.Prelude.{option_map, List, [], ◌∷◌, ◌++◌, slice_index_or}
 use Rattle.std.specs.List.{list_any}
 use Rattle.mr_base.specs.declared.vif_record.VifRecord.{VifRecord}
 use Rattle.mr_model.specs.declared.entry.Entry.{Entry}
 use Rattle.mr_model.specs.declared.limits.Limits.{Limits}
 use Rattle.mr_model.specs.declared.outcome.Outcome.{Outcome}
-use Rattle.mr_model.specs.declared.outcome.Outcome.TheVariants.{Forward, Register, Wrong, Parked, Dropped}
+use Rattle.mr_model.specs.declared.outcome.Outcome.TheVariants.{Forward, Register, Wrong, Parked}
+use Rattle.mr_model.specs.declared.outcome.Outcome.TheVariants.{Dropped}
 use Rattle.mr_model.specs.declared.reply.RouteTotals.{RouteTotals}
 use Rattle.mr_model.specs.declared.reply.VifTotals.{VifTotals}
 use Rattle.mr_model.specs.Counts.{route_counts, vif_counts}
@@ -44,7 +46,8 @@ route_totals j n = if has_number j.routes n then Some (route_counts j.entries n)
 
 -- the totals of the vif at an index, where they are kept
 abbrev pub vif_totals : JournalValue → ℕ → Option VifTotals
-vif_totals j vif = option_map (λ n. vif_counts j.entries (numbered_vif vif n)) (number_at j.vifs vif)
+vif_totals j vif = option_map (λ n. vif_counts j.entries (numbered_vif vif n))
+    (number_at j.vifs vif)
 
 -- the outcome names no (S,G) entry above number n
 abbrev pub NamesUpTo : ℕ → Outcome → Type 0

@@ -24,14 +24,17 @@ journal_value a = record {
 }
 
 -- what is used and what is left make up the limits
-pub record IsLeft (limits : Limits) (h : List Entry) (controls_left phases_left : ℕ) (packets_left : List ℕ) : Type 0 where
+pub record IsLeft (limits : Limits) (h : List Entry) (controls_left phases_left : ℕ)
+    (packets_left : List ℕ) : Type 0 where
   pub lanes : length packets_left ≡ length limits.packets
   pub controls_are : controls h + controls_left ≡ limits.controls
   pub phases_are : phases h + phases_left ≡ limits.phases
-  pub packets_are : (lane : LaneNo) → IsLane limits lane → packets lane h + slice_index packets_left (lane.0 - 1) ≡ packets_given limits lane
+  pub packets_are : (lane : LaneNo) → IsLane limits lane
+      → packets lane h + slice_index packets_left (lane.0 - 1) ≡ packets_given limits lane
 
 -- there is room for all that is left, and what is used and left is little
-pub record HasSpace (h : List Entry) (spare : Spare) (controls_left phases_left : ℕ) (packets_left : List ℕ) : Type 0 where
+pub record HasSpace (h : List Entry) (spare : Spare) (controls_left phases_left : ℕ)
+    (packets_left : List ℕ) : Type 0 where
   pub entries : controls_left + phases_left + sum packets_left ≤ spare.entries
   pub packets : sum packets_left ≤ spare.packets
   pub calls : controls_left ≤ spare.calls
@@ -56,5 +59,6 @@ pub record IsCounted (limits : Limits) (h : List Entry) (t : Totals) : Type 0 wh
 pub record IsJournal (a : Inside) : Type 0 where
   pub limits : FitsLimits a.limits
   pub left : IsLeft a.limits a.store.entries a.controls_left a.phases_left a.packets_left.items
-  pub space : HasSpace a.store.entries a.store.spare a.controls_left a.phases_left a.packets_left.items
+  pub space : HasSpace a.store.entries a.store.spare a.controls_left a.phases_left
+      a.packets_left.items
   pub counted : IsCounted a.limits a.store.entries a.totals

@@ -1,5 +1,6 @@
 -- Values kept under numbers, newest first: the numbers fall, so no number stands twice.
-use Rattle.std.specs.Prelude.{refl, ℕ, ◌<◌, ◌==◌, if◌then◌else◌, Option, Some, None, List, [], ◌∷◌, map}
+use Rattle.std.specs.Prelude.{refl, ℕ, ◌<◌, ◌==◌, if◌then◌else◌, Option, Some, None, List, [], ◌∷◌}
+use Rattle.std.specs.Prelude.{map}
 use Rattle.std.specs.Coded.{Coded, code_by, coded×, coded_ℕ, coded_list}
 use Rattle.std.specs.List.{AllByRecursion}
 
@@ -10,7 +11,8 @@ pub record NumberedValue (T : Type 0) : Type 0 where
 
 abbrev pub numbered_code : {T : Type 0} → Coded T → Coded (NumberedValue T)
 numbered_code {T} code =
-    code_by (List (ℕ × T) × ℕ) (coded× (coded_list (coded× coded_ℕ code)) coded_ℕ) (λ v. (v.items, v.room))
+    code_by (List (ℕ × T) × ℕ) (coded× (coded_list (coded× coded_ℕ code)) coded_ℕ)
+    (λ v. (v.items, v.room))
     (λ p. record { items = p.0; room = p.1 }) (λ _. refl)
 
 -- the value of a number

@@ -4,7 +4,8 @@ use Rattle.mr_history.specs.declared.most.TheConstants.{MOST_RELEASED}
 use Rattle.mr_model.specs.declared.entry.Entry.{Entry}
 use Rattle.mr_model.specs.declared.entry.Entry.TheVariants as kept
 use Rattle.mr_history.specs.declared.view.EntryView.{EntryView}
-use Rattle.mr_history.specs.declared.view.EntryView.TheVariants.{Call, Slow, Settle, Tick, Recv, EndPhase}
+use Rattle.mr_history.specs.declared.view.EntryView.TheVariants.{Call, Slow, Settle, Tick, Recv}
+use Rattle.mr_history.specs.declared.view.EntryView.TheVariants.{EndPhase}
 
 abbrev pub entry_seen : EntryView → Entry
 entry_seen (Call d r reply released) = kept.Call d r.now reply released.now

@@ -1,5 +1,6 @@
 -- How the entries are kept.
-use Rattle.std.specs.Prelude.{ℕ, ◌+◌, ◌-◌, ◌^◌, ◌<◌, ◌≤◌, min, Option, Some, None, List, length, map, take, drop, slice_get}
+use Rattle.std.specs.Prelude.{ℕ, ◌+◌, ◌-◌, ◌^◌, ◌<◌, ◌≤◌, min, Option, Some, None, List, length}
+use Rattle.std.specs.Prelude.{map, take, drop, slice_get}
 use Rattle.std.specs.List.{AllByRecursion}
 use Rattle.std.specs.Vec.{vec_capacity}
 use Rattle.mr_base.specs.declared.numbers.LaneNo.{LaneNo}
@@ -10,7 +11,8 @@ use Rattle.mr_model.specs.declared.entry.ReleasedId.{ReleasedId}
 use Rattle.mr_model.specs.declared.outcome.Outcome.TheVariants as outcome
 use Rattle.mr_history.specs.declared.most.TheConstants.{MOST_RELEASED}
 use Rattle.mr_history.specs.declared.store.Kept.{Kept}
-use Rattle.mr_history.specs.declared.store.Kept.TheVariants.{Call, Forward, Slow, Settle, Tick, Recv, EndPhase}
+use Rattle.mr_history.specs.declared.store.Kept.TheVariants.{Call, Forward, Slow, Settle, Tick}
+use Rattle.mr_history.specs.declared.store.Kept.TheVariants.{Recv, EndPhase}
 use Rattle.mr_history.specs.declared.store.KeptSlow.{KeptSlow}
 use Rattle.mr_history.specs.declared.store.KeptCall.{KeptCall}
 use Rattle.mr_history.specs.declared.store.Store.TheInside.{Inside}
@@ -34,7 +36,8 @@ call_of (Some c) released = entry.Call c.daemon c.request c.reply released
 
 abbrev pub forward_of : LaneNo → Option FastRecord → Entry
 forward_of lane None = entry.EndPhase
-forward_of lane (Some r) = entry.Slow lane r.index r.look r.flow (outcome.Forward r.entry r.input r.outs)
+forward_of lane (Some r) = entry.Slow lane r.index r.look r.flow
+    (outcome.Forward r.entry r.input r.outs)
 
 abbrev pub slow_of : Option KeptSlow → Entry
 slow_of None = entry.EndPhase
@@ -52,7 +55,8 @@ entry_of l EndPhase = entry.EndPhase
 
 -- the places that an entry names stand in the lists
 abbrev pub IsWithin : Lists → Kept → Type 0
-IsWithin l (Call call first count) = (call < length l.calls) × (first + count ≤ length l.released) × (count ≤ MOST_RELEASED)
+IsWithin l (Call call first count) = (call < length l.calls)
+    × (first + count ≤ length l.released) × (count ≤ MOST_RELEASED)
 IsWithin l (Forward lane i) = i < length l.records
 IsWithin l (Slow i) = i < length l.slows
 IsWithin l (Settle lane first count) = first + count ≤ length l.records
@@ -62,14 +66,20 @@ abbrev pub entries_of : Lists → List Kept → List Entry
 entries_of l ks = map (entry_of l) ks
 
 abbrev pub lists_of : Inside → Lists
-lists_of a = record { records = map fast_of a.records.items; slows = a.slows.items; calls = a.calls.items; released = a.released.items }
+lists_of a = record {
+  records = map fast_of a.records.items;
+  slows = a.slows.items;
+  calls = a.calls.items;
+  released = a.released.items;
+}
 
 abbrev pub store_value : Inside → StoreValue
 store_value a = record {
   entries = entries_of (lists_of a) a.kept.items;
   spare = record {
     entries = vec_capacity a.kept - length a.kept.items;
-    packets = min (vec_capacity a.records - length a.records.items) (vec_capacity a.slows - length a.slows.items);
+    packets = min (vec_capacity a.records - length a.records.items)
+        (vec_capacity a.slows - length a.slows.items);
     calls = vec_capacity a.calls - length a.calls.items;
     released = vec_capacity a.released - length a.released.items;
   };

@@ -1,5 +1,6 @@
 -- What the totals kept are: the sums over the packets that met entries.
-use Rattle.std.specs.Prelude.{◌≡◌, ℕ, ◌+◌, ◌-◌, ◌^◌, ◌<◌, min, nat_le, if◌then◌else◌, Option, Some, None, option_map, List, [], ◌∷◌, ◌++◌, map, length, slice_index_or}
+use Rattle.std.specs.Prelude.{◌≡◌, ℕ, ◌+◌, ◌-◌, ◌^◌, ◌<◌, min, nat_le, if◌then◌else◌, Option, Some}
+use Rattle.std.specs.Prelude.{None, option_map, List, [], ◌∷◌, ◌++◌, map, length, slice_index_or}
 use Rattle.std.specs.List.{AllByRecursion}
 use Rattle.mr_model.specs.Counts.{Met, met_by, route_sums, vif_sums}
 use Rattle.mr_model.specs.declared.entry.ReleasedId.{ReleasedId}
@@ -12,7 +13,14 @@ use Rattle.mr_history.specs.Numbers.{numbers_of}
 
 -- the packet that met an entry, as the definitions see it
 abbrev pub met_of : Meeting → Met
-met_of m = record { place = m.place; entry = m.entry; input = m.input; outs = m.outs; wrong = m.wrong; length = m.length }
+met_of m = record {
+  place = m.place;
+  entry = m.entry;
+  input = m.input;
+  outs = m.outs;
+  wrong = m.wrong;
+  length = m.length;
+}
 
 abbrev pub vif_numbers : List (Option VifKept) → List (Option ℕ)
 vif_numbers vifs = map (option_map (λ k. k.number)) vifs
@@ -40,7 +48,10 @@ with_in m (Some k) =
     if nat_le k.number m.place
     then Some (record {
       number = k.number;
-      totals = record k.totals { packets_in = sum_64 k.totals.packets_in 1; bytes_in = sum_64 k.totals.bytes_in m.length };
+      totals = record k.totals {
+        packets_in = sum_64 k.totals.packets_in 1;
+        bytes_in = sum_64 k.totals.bytes_in m.length;
+      };
     })
     else Some k
 
@@ -51,7 +62,10 @@ with_out m (Some k) =
     if nat_le k.number m.place
     then Some (record {
       number = k.number;
-      totals = record k.totals { packets_out = sum_64 k.totals.packets_out 1; bytes_out = sum_64 k.totals.bytes_out m.length };
+      totals = record k.totals {
+        packets_out = sum_64 k.totals.packets_out 1;
+        bytes_out = sum_64 k.totals.bytes_out m.length;
+      };
     })
     else Some k
 

@@ -4,7 +4,8 @@ ghost use Rattle.std.specs.Prelude.{◌≡◌, ℕ, ◌<◌, ◌&&◌, nat_lt, i
 ghost use Rattle.mr_model.specs.Counts.{Met};
 ghost use Rattle.mr_model.specs.Verdict.{is_in, is_vif};
 ghost use Rattle.mr_history.specs.Numbers.{numbers_of};
-ghost use Rattle.mr_history.specs.Totals.{met_of, vif_at, vif_numbers, route_with, with_in, with_out};
+ghost use Rattle.mr_history.specs.Totals.{met_of, vif_at, vif_numbers, route_with, with_in};
+ghost use Rattle.mr_history.specs.Totals.{with_out};
 ghost use Rattle.mr_history.specs.Totals.{AreRoutes, AreFew, AreTotals, SameKept};
 
 use crate::meeting::Meeting;
@@ -71,7 +72,8 @@ fn is_in(outs: Mask, vif: u8) -> bool
 
 /// Counts a packet for its entry, where that is kept.
 fn count_route(routes: &mut Numbered<RouteTotals>, met: &Meeting)
-    ensures sums { (ms : List Met) → AreFew (ms ++ met_of met.now ∷ []) → AreRoutes routes.old.items ms
+    ensures sums { (ms : List Met) → AreFew (ms ++ met_of met.now ∷ [])
+        → AreRoutes routes.old.items ms
         → AreRoutes routes.new.items (ms ++ met_of met.now ∷ []) }
     ensures numbers { numbers_of routes.new.items ≡ numbers_of routes.old.items }
     ensures room { routes.new.room ≡ routes.old.room }

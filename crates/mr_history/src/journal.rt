@@ -1,11 +1,13 @@
 //! The journal as an object.
 
-ghost use Rattle.std.specs.Prelude.{◌≡◌, ◌<◌, ◌≤◌, ◌+◌, [], ◌∷◌, length, map, None, Some, is_some, slice_set, false, sum, ◌^◌, IsTrue, IfOk};
+ghost use Rattle.std.specs.Prelude.{◌≡◌, ◌<◌, ◌≤◌, ◌+◌, [], ◌∷◌, length, map, None, Some, is_some};
+ghost use Rattle.std.specs.Prelude.{slice_set, false, sum, ◌^◌, IsTrue, IfOk};
 ghost use Rattle.std.specs.Prelude.{replicate};
 ghost use Rattle.mr_model.specs.Past.{controls, packets, phases};
 ghost use Rattle.mr_model.specs.Legal.{IsLane, packets_given};
 ghost use Rattle.mr_history.specs.Fits.{FitsLimits};
-ghost use Rattle.mr_history.specs.Journals.{has_number, remove_number, number_at, route_totals, vif_totals};
+ghost use Rattle.mr_history.specs.Journals.{has_number, remove_number, number_at, route_totals};
+ghost use Rattle.mr_history.specs.Journals.{vif_totals};
 ghost use Rattle.mr_history.specs.Totals.{vif_at};
 ghost use Rattle.mr_history.specs.declared.most.TheConstants.{VIFS};
 

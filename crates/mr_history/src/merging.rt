@@ -52,7 +52,7 @@ fn push_entry(all: &mut Vec<LaneFast>, seen: &EntryView<'_>) -> Result<(), Alloc
 pub(crate) fn fast_records(alloc: Global, store: &Store) -> Result<Vec<LaneFast>, AllocError>
     ensures { IfOk result (λ all. all.items ≡ flat_map lane_fast store.now.entries) }
 {
-    let mut all = Vec::with_capacity(alloc, store.record_count())?;
+    let mut all = Vec::new(alloc);
     for place in 0..store.len() {
         push_entry(&mut all, &store.entry(place))?;
     }

@@ -2,15 +2,16 @@
 
 ghost use Rattle.std.specs.Prelude.{◌≡◌, ◌<◌, ◌≤◌, [], ◌∷◌, length, IsSome, IfOk};
 ghost use Rattle.std.specs.Prelude.{ℕ, None, reverse, slice_index_or, IfSome, IfNone};
-ghost use Rattle.mr_history.specs.Numbers.{value_of, with_value, without_value, AreBelow, AreFalling};
+ghost use Rattle.mr_history.specs.Numbers.{value_of, with_value, without_value, AreBelow};
+ghost use Rattle.mr_history.specs.Numbers.{AreFalling};
 ghost use Rattle.mr_history.specs.Rising.{AreRising};
 
 use mr_base::Memory;
 use std::alloc::Global;
 use std::marker::Model;
 
-/// Values under numbers, each found in logarithmic time. Contracts see the pairs, newest first, and
-/// how many there is room for. All memory is taken when it is made.
+/// Values under numbers, each found in logarithmic time. Contracts see the pairs, newest first,
+/// and how many there is room for. All memory is taken when it is made.
 #[derive(Debug, Drop)]
 pub struct Numbered<T> {
     rising: Vec<(u32, T)>,

@@ -2,12 +2,14 @@
 
 ghost use Rattle.std.specs.Prelude.{◌≡◌, ◌<◌, ◌≤◌, ◌+◌, length, map};
 ghost use Rattle.std.specs.List.{AllByRecursion};
-ghost use Rattle.mr_model.specs.declared.entry.Entry.TheVariants.{Call, Slow, Settle, Tick, Recv, EndPhase};
+ghost use Rattle.mr_model.specs.declared.entry.Entry.TheVariants.{Call, Slow, Settle, Tick, Recv};
+ghost use Rattle.mr_model.specs.declared.entry.Entry.TheVariants.{EndPhase};
 ghost use Rattle.mr_model.specs.Counts.{length_of};
 ghost use Rattle.mr_model.specs.Past.{controls, packets, phases};
 ghost use Rattle.mr_model.specs.Legal.{IsLane, packets_given};
 ghost use Rattle.mr_history.specs.Journals.{with_entry, NamesUpTo};
-ghost use Rattle.mr_history.specs.declared.most.TheConstants.{LAST_DEVICE, MOST_RECORDS, MOST_RELEASED};
+ghost use Rattle.mr_history.specs.declared.most.TheConstants.{LAST_DEVICE, MOST_RECORDS};
+ghost use Rattle.mr_history.specs.declared.most.TheConstants.{MOST_RELEASED};
 
 use crate::counting_all::{count_fast, count_outcome, count_released};
 use crate::journal::Journal;
@@ -28,8 +30,10 @@ impl Journal {
     )
         requires left { controls self.old.entries < self.old.limits.controls }
         requires few { length released.now ≤ MOST_RELEASED }
-        requires lengths { lengths.now ≡ map (λ r. length_of self.old.entries r.lane r.index) released.now }
-        requires named { AllByRecursion (λ r. NamesUpTo (length self.old.entries + 1) r.outcome) released.now }
+        requires lengths { lengths.now
+            ≡ map (λ r. length_of self.old.entries r.lane r.index) released.now }
+        requires named { AllByRecursion
+            (λ r. NamesUpTo (length self.old.entries + 1) r.outcome) released.now }
         ensures { self.new ≡ with_entry self.old (Call daemon request.now reply.now released.now) }
     {
         let place = self.store.len() + 1;
@@ -71,13 +75,14 @@ impl Journal {
         self.packets_left[lane.0 as usize - 1] -= 1;
     }
 
-    /// A settle of 1 to [`MOST_RECORDS`](crate::MOST_RECORDS) records. The lane has to have so many
-    /// packets left.
+    /// A settle of 1 to [`MOST_RECORDS`](crate::MOST_RECORDS) records. The lane has to have so
+    /// many packets left.
     pub fn push_settle(&mut self, lane: LaneNo, records: &[FastRecord])
         requires lane { IsLane self.old.limits lane }
         requires some { 1 ≤ length records.now }
         requires most { length records.now ≤ MOST_RECORDS }
-        requires left { packets lane self.old.entries + length records.now ≤ packets_given self.old.limits lane }
+        requires left { packets lane self.old.entries + length records.now
+            ≤ packets_given self.old.limits lane }
         requires looks { AllByRecursion (λ r. r.look ≤ length self.old.entries) records.now }
         requires named { AllByRecursion (λ r. r.entry ≤ length self.old.entries) records.now }
         requires devices { AllByRecursion (λ r. r.flow.dev ≤ LAST_DEVICE) records.now }

@@ -138,11 +138,6 @@ impl Store {
         self.kept.as_slice().len() as u32
     }
 
-    /// How many plain forwards are kept.
-    pub(crate) fn record_count(&self) -> usize {
-        self.records.as_slice().len()
-    }
-
     /// The entry at a place, counted from 0.
     pub(crate) fn entry(&self, place: u32) -> EntryView<'_>
         requires { place < length self.now.entries }

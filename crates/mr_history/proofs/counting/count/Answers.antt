@@ -10,7 +10,10 @@ returns-clause-sums c = λ ms few are.
     record {
       routes = c.count_route.ensures.sums ms few are.routes;
       ins = λ i. subst (λ k. IsIn i (ms ++ m ∷ []) k) (sym (c.count_outs.ensures.at i))
-          (out_keeps_in i (ms ++ m ∷ []) m _ _ (subst (λ k. IsIn i (ms ++ m ∷ []) k) (sym (c.count_in.ensures.at i)) (in_step i ms m _ room (are.ins i))));
+          (out_keeps_in i (ms ++ m ∷ []) m _ _
+          (subst (λ k. IsIn i (ms ++ m ∷ []) k) (sym (c.count_in.ensures.at i))
+          (in_step i ms m _ room (are.ins i))));
       outs = λ i. subst (λ k. IsOut i (ms ++ m ∷ []) k) (sym (c.count_outs.ensures.at i))
-          (out_step i ms m _ room (subst (λ k. IsOut i ms k) (sym (c.count_in.ensures.at i)) (in_keeps_out i ms m _ _ (are.outs i))));
+          (out_step i ms m _ room (subst (λ k. IsOut i ms k) (sym (c.count_in.ensures.at i))
+          (in_keeps_out i ms m _ _ (are.outs i))));
     }

@@ -11,12 +11,15 @@ loop-vif-preserved c =
     elim c.if-is_in.branch [
       | then-is_in w ↦ rw (w.vifs-is, w.with_out.ensures, w.from-at.ensures) record {
         kept = search rules;
-        at = out_went m c.loop-vif.vif c.args.vifs.now c.loop-vif.vifs (omega arith) (sym c.is_in.ensures ∙ w.if-is_in.true) v.at;
-        numbers = numbers_set c.loop-vif.vifs c.loop-vif.vif _ (out_number m (vif_at c.loop-vif.vifs c.loop-vif.vif)) ∙ v.numbers;
+        at = out_went m c.loop-vif.vif c.args.vifs.now c.loop-vif.vifs (omega arith)
+            (sym c.is_in.ensures ∙ w.if-is_in.true) v.at;
+        numbers = numbers_set c.loop-vif.vifs c.loop-vif.vif _
+            (out_number m (vif_at c.loop-vif.vifs c.loop-vif.vif)) ∙ v.numbers;
       }
       | else-is_in w ↦ rw w.vifs-is record {
         kept = v.kept;
-        at = out_stayed m c.loop-vif.vif c.args.vifs.now c.loop-vif.vifs (sym c.is_in.ensures ∙ w.if-is_in.false) v.at;
+        at = out_stayed m c.loop-vif.vif c.args.vifs.now c.loop-vif.vifs
+            (sym c.is_in.ensures ∙ w.if-is_in.false) v.at;
         numbers = v.numbers;
       }
     ]

@@ -5,7 +5,9 @@ use Rattle.mr_history.proofs.counting_all.count_released.Given as goal
 
 abbrev pub invariant-loop-i : goal.invariant-loop-i
 invariant-loop-i l = record {
-  sums : (ms : List Met) → AreFew (ms ++ released_mets l.place (take l.i l.released) (take l.i l.lengths)) → AreTotals l.initial.totals ms →
+  sums : (ms : List Met) → AreFew
+      (ms ++ released_mets l.place (take l.i l.released) (take l.i l.lengths))
+      → AreTotals l.initial.totals ms →
       AreTotals l.totals (ms ++ released_mets l.place (take l.i l.released) (take l.i l.lengths));
   short : AreShort (released_mets l.place (take l.i l.released) (take l.i l.lengths));
   same : SameKept l.initial.totals l.totals;

@@ -9,7 +9,9 @@ loop-place-preserved c =
     let s = c.in_ok-rest.ensures in
     record {
       steps = rw (c.in_ok-push.ensures.items, s.steps, c.in_ok-copy_of.ensures)
-          (merge_more c.args.store.now.entries c.loop-place.place (entry_seen c.entry.result) c.loop-place.steps.items c.loop-place.rest.now c.entry.ensures.seen v.steps v.same);
+          (merge_more c.args.store.now.entries c.loop-place.place
+          (entry_seen c.entry.result) c.loop-place.steps.items c.loop-place.rest.now
+          c.entry.ensures.seen v.steps v.same);
       sorted = s.sorted;
       from = s.from;
       same = same_on c.loop-place.place _ _ _ s.same v.same;
@@ -18,7 +20,10 @@ loop-place-preserved c =
 pub returns : goal.returns
 returns c =
     let v = c.loop-place.invariant in
-    let last : c.len.result ≡ c.loop-place.place = omega (arith, c.len.ensures, c.len-place-end.ensures) in
-    let past : length c.args.store.now.entries ≤ c.loop-place.place = omega (arith, c.len.ensures, last) in
+    let last : c.len.result ≡ c.loop-place.place =
+    omega (arith, c.len.ensures, c.len-place-end.ensures) in
+    let past : length c.args.store.now.entries ≤ c.loop-place.place =
+    omega (arith, c.len.ensures, last) in
     rw (c.in_ok-push_seen.ensures.steps, last)
-    (merge_last c.args.store.now.entries c.loop-place.place c.loop-place.steps.items c.loop-place.rest.now past v.steps v.same)
+    (merge_last c.args.store.now.entries c.loop-place.place c.loop-place.steps.items
+    c.loop-place.rest.now past v.steps v.same)

@@ -4,7 +4,8 @@ use Rattle.mr_history.proofs.merging.push_seen.Given as goal
 
 abbrev pub invariant-loop-rest : goal.invariant-loop-rest
 invariant-loop-rest l = record {
-  steps : l.steps.items ++ map step_of (filter (is_at l.look) l.rest) ≡ l.initial.steps.items ++ map step_of (filter (is_at l.look) l.sorted);
+  steps : l.steps.items ++ map step_of (filter (is_at l.look) l.rest)
+      ≡ l.initial.steps.items ++ map step_of (filter (is_at l.look) l.sorted);
   sorted : AreSorted l.rest;
   from : AreFrom l.look l.rest;
   same : SameFrom (l.look + 1) l.rest l.sorted;

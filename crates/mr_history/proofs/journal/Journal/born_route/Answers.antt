@@ -7,7 +7,8 @@ use Rattle.mr_history.proofs.journal.Journal.born_route.Goals as goal
 pub push-requires-clause-above : goal.push-requires-clause-above
 push-requires-clause-above c =
     let q = rw (← c.self.view_is) at c.requires in
-    below_new c.self.inside.totals.routes.items c.args.number (rw (← q.next) at c.self.invariant.counted.numbers) q.new
+    below_new c.self.inside.totals.routes.items c.args.number
+    (rw (← q.next) at c.self.invariant.counted.numbers) q.new
 
 pub invariant_of-self : goal.invariant_of-self
 invariant_of-self c =
@@ -21,6 +22,8 @@ invariant_of-self c =
       left = v.left;
       space = v.space;
       counted = counted_routes c.self.inside.limits h c.self.inside.totals _ v.counted
-          (rw (c.push.ensures.items, q.next, route_zero (met h) (length h) v.counted.within) (zero, v.counted.totals.routes))
-          (rw c.push.ensures.items (omega (arith, q.next), v.counted.numbers)) c.push.ensures.room refl;
+          (rw (c.push.ensures.items, q.next, route_zero (met h) (length h) v.counted.within)
+          (zero, v.counted.totals.routes))
+          (rw c.push.ensures.items (omega (arith, q.next), v.counted.numbers))
+          c.push.ensures.room refl;
     }

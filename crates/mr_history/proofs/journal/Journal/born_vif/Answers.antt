@@ -11,19 +11,27 @@ invariant_of-self c =
     let q = rw (← c.self.view_is) at c.requires in
     let h = c.self.inside.store.entries in
     let ks = c.self.inside.totals.vifs in
-    let inside : c.from.result < length ks = omega (arith, v.counted.vifs, q.index, c.from.ensures) in
+    let inside : c.from.result < length ks =
+    omega (arith, v.counted.vifs, q.index, c.from.ensures) in
     let d = c.default.ensures in
     let zero = no_vif_yet c.default.result d.0 d.1.0 d.1.1.0 d.1.1.1 in
     record {
       limits = v.limits;
       left = v.left;
       space = v.space;
-      counted = counted_vifs c.self.inside.limits h c.self.inside.totals _ v.counted refl (rw length-set v.counted.vifs)
+      counted = counted_vifs c.self.inside.limits h c.self.inside.totals _ v.counted refl
+          (rw length-set v.counted.vifs)
           (rw (q.next, zero)
-          (born_in (met h) ks c.from.result (length h) inside v.counted.within v.counted.totals.ins))
+          (born_in (met h) ks c.from.result
+          (length h) inside v.counted.within v.counted.totals.ins))
           (rw (q.next, zero)
-          (born_out (met h) ks c.from.result (length h) inside v.counted.within v.counted.totals.outs));
+          (born_out (met h) ks c.from.result
+          (length h) inside v.counted.within v.counted.totals.outs));
     }
 
 pub returns : goal.returns
-returns c = rw (← c.self.view_is, numbers_of_set c.self.inside.totals.vifs c.from.result _, c.from.ensures) refl
+returns c = rw (
+  ← c.self.view_is,
+  numbers_of_set c.self.inside.totals.vifs c.from.result _,
+  c.from.ensures,
+) refl

@@ -13,9 +13,12 @@ invariant_of-self c =
     let old = c.self.inside.totals in
     let q = rw (← c.self.view_is) at c.requires in
     let place = c.len-place.ensures in
-    let most : length (met_by (length h) c.args.flow.now.length c.args.outcome.now) ≤ 1 = met_most (length h) c.args.flow.now.length c.args.outcome.now in
-    let used = lane_used limits h e _ _ c.self.inside.packets_left.items c.args.lane 1 c.index_mut.result.now _ _ v.left v.space c.push_slow.ensures.room
-    refl refl (λ l. refl) refl q.lane (omega arith) (omega (arith, q.left)) c.index_mut.ensures.value most in
+    let most : length (met_by (length h) c.args.flow.now.length c.args.outcome.now) ≤ 1 =
+    met_most (length h) c.args.flow.now.length c.args.outcome.now in
+    let used = lane_used limits h e _ _ c.self.inside.packets_left.items c.args.lane 1
+    c.index_mut.result.now _ _ v.left v.space c.push_slow.ensures.room
+    refl refl (λ l. refl) refl q.lane (omega arith)
+    (omega (arith, q.left)) c.index_mut.ensures.value most in
     let short = rw place at c.count_outcome.ensures.short in
     let few = few_met limits h e old _ _ _ 0 _ v.counted v.space short (omega (arith, most)) in
     let sums = rw place at c.count_outcome.ensures.sums (met h) in
@@ -25,5 +28,6 @@ invariant_of-self c =
       space = rw c.push_slow.ensures.entries used.1;
       counted = rw c.push_slow.ensures.entries
           (counted_push limits h e old c.count_outcome.new.totals v.counted short
-          (met_within (length h) c.args.flow.now.length (length h + 1) c.args.outcome.now (omega arith) q.named) (sums few v.counted.totals) c.count_outcome.ensures.same);
+          (met_within (length h) c.args.flow.now.length (length h + 1) c.args.outcome.now
+          (omega arith) q.named) (sums few v.counted.totals) c.count_outcome.ensures.same);
     }

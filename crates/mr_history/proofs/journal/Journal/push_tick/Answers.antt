@@ -8,12 +8,17 @@ invariant_of-self c =
     let v = c.self.invariant in
     let e = Tick c.args.daemon c.args.ms in
     let h = c.self.inside.store.entries in
-    let some : 1 ≤ c.self.inside.controls_left = omega (arith, v.left.controls_are, rw (← c.self.view_is) at c.requires) in
+    let some : 1 ≤ c.self.inside.controls_left =
+    omega (arith, v.left.controls_are, rw (← c.self.view_is) at c.requires) in
     record {
       limits = v.limits;
-      left = rw c.push_tick.ensures.entries (left_control c.self.inside.limits h e _ _ _ v.left refl refl (λ lane. refl) some);
+      left = rw c.push_tick.ensures.entries
+          (left_control c.self.inside.limits h e _ _ _ v.left refl refl (λ lane. refl) some);
       space = rw c.push_tick.ensures.entries
-          (space_push h e _ _ _ _ (c.self.inside.controls_left - 1) c.self.inside.phases_left 1 0 0 0 0 0 c.self.inside.packets_left.items c.self.inside.packets_left.items
-          v.space c.push_tick.ensures.room (omega (arith, some)) (omega arith) (omega arith) (omega arith) (omega arith) (omega arith) (omega arith) (omega arith));
-      counted = rw c.push_tick.ensures.entries (counted_none c.self.inside.limits h e c.self.inside.totals refl v.counted);
+          (space_push h e _ _ _ _ (c.self.inside.controls_left - 1) c.self.inside.phases_left 1 0
+          0 0 0 0 c.self.inside.packets_left.items c.self.inside.packets_left.items
+          v.space c.push_tick.ensures.room (omega (arith, some)) (omega arith) (omega arith)
+          (omega arith) (omega arith) (omega arith) (omega arith) (omega arith));
+      counted = rw c.push_tick.ensures.entries
+          (counted_none c.self.inside.limits h e c.self.inside.totals refl v.counted);
     }

@@ -10,7 +10,9 @@ invariant_of-result c =
       limits = rw same c.requires;
       left = rw (c.in_ok-with.ensures.entries, packets) (left_first c.in-Ok-clone.kept);
       space = rw (c.in_ok-with.ensures.entries, packets)
-          (space_first c.in-Ok-clone.kept _ c.in_ok-with.field-0.spare (rw same c.requires) c.in_ok-with.ensures.room
+          (space_first c.in-Ok-clone.kept _ c.in_ok-with.field-0.spare
+          (rw same c.requires) c.in_ok-with.ensures.room
           (search rules) (search rules) (search rules) (search rules));
-      counted = rw c.in_ok-with.ensures.entries (counted_first _ _ c.in_ok-with-2.ensures.items (search rules) refl);
+      counted = rw c.in_ok-with.ensures.entries
+          (counted_first _ _ c.in_ok-with-2.ensures.items (search rules) refl);
     }

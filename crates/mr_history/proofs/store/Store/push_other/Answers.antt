@@ -8,7 +8,8 @@ invariant_of-self c =
     let v = c.self.invariant in
     record {
       within = rw (c.push_reserved-2.ensures.items, c.push_reserved.ensures.items)
-          (slow_within (lists_of c.self.inside) c.self.inside.kept.items _ c.args.slow v.within (rw c.as_slice.ensures.value refl));
+          (slow_within (lists_of c.self.inside) c.self.inside.kept.items _ c.args.slow v.within
+          (rw c.as_slice.ensures.value refl));
       entries = search rules;
       most_entries = search rules;
       records = v.records;
@@ -24,4 +25,5 @@ invariant_of-self c =
 pub returns-clause-entries : goal.returns-clause-entries
 returns-clause-entries c =
     rw (c.push_reserved-2.ensures.items, c.push_reserved.ensures.items, ← c.self.view_is)
-    (slow_pushed (lists_of c.self.inside) c.self.inside.kept.items _ c.args.slow c.self.invariant.within (rw c.as_slice.ensures.value refl))
+    (slow_pushed (lists_of c.self.inside) c.self.inside.kept.items _ c.args.slow
+    c.self.invariant.within (rw c.as_slice.ensures.value refl))
