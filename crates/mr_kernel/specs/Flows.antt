@@ -1,5 +1,6 @@
 -- What a history keeps of a packet, and what agrees with it.
-use Rattle.std.specs.Prelude.{◌≡◌, ℕ, ◌==◌, ◌&&◌, Bool, if◌then◌else◌, Option, Some, None, List, [], ◌∷◌}
+use Rattle.std.specs.Prelude.{◌≡◌, ℕ, ◌==◌, ◌&&◌, Bool, if◌then◌else◌, Option, Some, None, List}
+use Rattle.std.specs.Prelude.{[], ◌∷◌}
 use Rattle.std.specs.List.{AllByRecursion}
 use Rattle.mr_base.specs.declared.head.Head.{Head}
 use Rattle.mr_base.specs.declared.numbers.LaneNo.{LaneNo}

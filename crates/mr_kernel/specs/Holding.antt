@@ -1,5 +1,6 @@
 -- What the machine keeps of its parts.
-use Rattle.std.specs.Prelude.{◌≡◌, ℕ, ◌*◌, ◌<◌, ◌≤◌, Bool, if◌then◌else◌, Option, option_map, List, map}
+use Rattle.std.specs.Prelude.{◌≡◌, ℕ, ◌*◌, ◌<◌, ◌≤◌, Bool, if◌then◌else◌, Option, option_map, List}
+use Rattle.std.specs.Prelude.{map}
 use Rattle.mr_base.specs.declared.route.Route.{Route}
 use Rattle.mr_base.specs.declared.vif_record.VifRecord.{VifRecord}
 use Rattle.mr_model.specs.Fate.{fates}

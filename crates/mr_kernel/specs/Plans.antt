@@ -25,7 +25,7 @@ abbrev pub plan : KernelValue → DaemonNo → Request → Plan
 plan k d r =
     let s = state k.limits k.history in
     plan_by
-        (length k.history + 1)
-        (value_of k.history s r)
-        (error_of k.limits s d r)
-        (what_of k.limits.devices s.tables (not (is_owner s d)) r)
+    (length k.history + 1)
+    (value_of k.history s r)
+    (error_of k.limits s d r)
+    (what_of k.limits.devices s.tables (not (is_owner s d)) r)

@@ -32,7 +32,9 @@ pub fn flow_of(packet: &Packet) -> Flow
 
 /// The report of a packet that makes a waiting entry, with its head.
 fn no_cache(live: &Live, packet: &Packet) -> Upcall
-    ensures id { result.id ≡ no_cache (unwrap_or (vif_on live.now.tables.tables.vifs packet.now.dev) 0) packet.now.lane packet.now.index }
+    ensures id { result.id ≡ no_cache
+        (unwrap_or (vif_on live.now.tables.tables.vifs packet.now.dev) 0) packet.now.lane
+        packet.now.index }
     ensures head { result.head ≡ packet.now.head }
 {
     let vif = live.tables.vifs().of_device(packet.dev).unwrap_or(0);
@@ -71,7 +73,8 @@ pub fn arrive(live: &mut Live, packet: Packet, outcome: &Outcome) -> Option<Pack
     requires { NoneAfter live.old.moment (awaiting live.old.waiting.entries) }
     ensures stands { (limits : Limits) (s : State) → StandsFor limits s live.old →
         outcome.now ≡ outcome_in limits s (flow_of packet) →
-        StandsFor limits (arrived s packet.lane packet.index (flow_of packet) outcome.now) live.new }
+        StandsFor limits (arrived s packet.lane packet.index (flow_of packet) outcome.now)
+        live.new }
     ensures heads { (h : List Entry) → AreHeads h live.old.unread →
         IsHeadOf h packet.lane packet.index packet.head → AreHeads h live.new.unread }
     ensures back { result ≡ back_by outcome.now packet }

@@ -1,6 +1,7 @@
 //! A control call that is made.
 
-ghost use Rattle.std.specs.Prelude.{◌≡◌, ◌+◌, ◌<◌, ◌≤◌, ◌∷◌, ◌++◌, [], List, true, fold, length, map};
+ghost use Rattle.std.specs.Prelude.{◌≡◌, ◌+◌, ◌<◌, ◌≤◌, ◌∷◌, ◌++◌, [], List, true, fold, length};
+ghost use Rattle.std.specs.Prelude.{map};
 ghost use Rattle.std.specs.List.{AllByRecursion};
 ghost use Rattle.mr_model.specs.declared.entry.Entry.{Entry};
 ghost use Rattle.mr_model.specs.declared.entry.Entry.TheVariants.{Call};
@@ -95,7 +96,8 @@ fn make(
         (map id_of result.items) }
     ensures released { map id_of result.items
         ≡ (answer journal.old.limits journal.old.entries daemon request.now).released }
-    ensures reply { (answer journal.old.limits journal.old.entries daemon request.now).reply ≡ Good }
+    ensures reply { (answer journal.old.limits journal.old.entries daemon request.now).reply
+        ≡ Good }
     ensures known { AllByRecursion (λ f. IsKnown journal.old.entries f.packet) result.items }
     ensures holds { Holds (with_entry journal.new
         (Call daemon request.now Good (map id_of result.items))) live.new fates.new }
@@ -127,7 +129,8 @@ pub fn change(
     ensures limits { journal.new.limits ≡ journal.old.limits }
     ensures released { map id_of result.items
         ≡ (answer journal.old.limits journal.old.entries daemon request.now).released }
-    ensures reply { (answer journal.old.limits journal.old.entries daemon request.now).reply ≡ Good }
+    ensures reply { (answer journal.old.limits journal.old.entries daemon request.now).reply
+        ≡ Good }
     ensures known { AllByRecursion (λ f. IsKnown journal.old.entries f.packet) result.items }
     ensures holds { Holds journal.new live.new fates.new }
 {

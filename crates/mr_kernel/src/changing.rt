@@ -1,12 +1,13 @@
 //! A change of the tables, with what is counted for their entries and vifs (ipmr.c,
 //! `ip_mroute_setsockopt`).
 
-ghost use Rattle.std.specs.Prelude.{◌≡◌, ◌+◌, ◌<◌, ◌==◌, ◌∷◌, ℕ, false, if◌then◌else◌, List, None, Some, length, map, option_map, IsTrue};
+ghost use Rattle.std.specs.Prelude.{◌≡◌, ◌+◌, ◌<◌, ◌==◌, ◌∷◌, ℕ, false, if◌then◌else◌, List, None};
+ghost use Rattle.std.specs.Prelude.{Some, length, map, option_map, IsTrue};
 ghost use Rattle.mr_mfc.specs.Caches.{is_above};
 ghost use Rattle.mr_model.specs.Messages.{Attempt, last_attempt};
 ghost use Rattle.mr_model.specs.RouteList.{routes_left};
 ghost use Rattle.mr_model.specs.Tables.{routes_after, vifs_after};
-ghost use Rattle.mr_model.specs.VifList.{has_flag, has_vif, vif_at, vifs_left};
+ghost use Rattle.mr_model.specs.VifList.{has_vif, vif_at, vifs_left};
 ghost use Rattle.mr_tables.specs.Fitting.{fits, vif_fits, entry_fits};
 ghost use Rattle.mr_tables.specs.Values.{applied};
 ghost use Rattle.mr_history.specs.Journals.{has_number, number_at, remove_number};
@@ -19,28 +20,16 @@ use mr_base::Route;
 use mr_history::{Journal, Numbered};
 use mr_mfc::Cache;
 use mr_model::{Change, What};
+use mr_tables::{
+    MRT_FLUSH_MFC, MRT_FLUSH_MFC_STATIC, MRT_FLUSH_VIFS, MRT_FLUSH_VIFS_STATIC, has_flag,
+};
 use mr_vif::Vifs;
 
-/// Flush flags (mroute.h): entries that are not static.
-const MRT_FLUSH_MFC: u32 = 1;
-/// Static entries.
-const MRT_FLUSH_MFC_STATIC: u32 = 2;
-/// Vifs that are not static.
-const MRT_FLUSH_VIFS: u32 = 4;
-/// Static vifs.
-const MRT_FLUSH_VIFS_STATIC: u32 = 8;
 /// How many vif indexes there are (ipmr.c, MAXVIFS).
-const MAXVIFS: u8 = 32;
+const MAXVIFS: u8 = mr_base::MAXVIFS as u8;
 
 /// For each (S,G) entry by its number the moment of the last attempt to report a wrong interface.
 type Attempts = Numbered<Option<u64>>;
-
-/// Whether one of the flags in `bits` is set.
-fn has_flag(flags: u32, bits: u32) -> bool
-    ensures { result ≡ has_flag flags bits }
-{
-    flags & bits != 0
-}
 
 /// Whether a flush removes what is static, or is not.
 fn flushes(loose: bool, fixed: bool, is_static: bool) -> bool

@@ -1,6 +1,7 @@
 //! What the history ends with: the entries and the vifs that are there, with their totals.
 
-ghost use Rattle.std.specs.Prelude.{◌≡◌, ◌<◌, ℕ, true, List, map, reverse, flat_map, option_map, option_to_list, IfOk};
+ghost use Rattle.std.specs.Prelude.{◌≡◌, ◌<◌, ℕ, true, List, map, reverse, flat_map, option_map};
+ghost use Rattle.std.specs.Prelude.{option_to_list, IfOk};
 ghost use Rattle.std.specs.List.{AllByRecursion};
 ghost use Rattle.mr_model.specs.VifList.{vif_at};
 ghost use Rattle.mr_history.specs.Journals.{has_number};

@@ -8,13 +8,14 @@ ghost use Rattle.mr_model.specs.declared.limits.Limits.{Limits};
 ghost use Rattle.mr_model.specs.State.{State, is_owner};
 ghost use Rattle.mr_model.specs.Unread.{accepts_in};
 ghost use Rattle.mr_model.specs.Found.{found_in};
-ghost use Rattle.mr_model.specs.Outcome.{is_due, asks_report, wrong_report, judged, unmet, outcome_in};
+ghost use Rattle.mr_model.specs.Outcome.{is_due, asks_report, wrong_report, judged, unmet};
+ghost use Rattle.mr_model.specs.Outcome.{outcome_in};
 ghost use Rattle.mr_model.specs.Messages.{last_attempt};
 ghost use Rattle.mr_model.specs.VifList.{vif_on};
 ghost use Rattle.mr_kernel.specs.Standing.{StandsFor};
 
 use crate::live::Live;
-use mr_base::{DaemonNo, Route};
+use mr_base::{ASSERT_GAP_MS, DaemonNo, Route};
 use mr_mfc::reaches;
 use mr_model::{Cause, Flow, Outcome, Report, Verdict};
 use mr_unres::Room;
@@ -82,18 +83,14 @@ fn unmet(live: &Live, flow: &Flow) -> Outcome
     }
 }
 
-/// The milliseconds between two reports of a wrong interface for one entry (ipmr.c,
-/// MFC_ASSERT_THRESH).
-pub const ASSERT_MS: u64 = 3_000;
-
-/// Whether a report of a wrong interface is due: the last attempt was more than [`ASSERT_MS`] ago,
-/// or there was none.
+/// Whether a report of a wrong interface is due: the last attempt was more than
+/// [`ASSERT_GAP_MS`] ago, or there was none.
 fn is_due(moment: u64, last: Option<u64>) -> bool
     ensures { result ≡ is_due moment last }
 {
     match last {
         None => true,
-        Some(last) => moment.saturating_sub(last) > ASSERT_MS,
+        Some(last) => moment.saturating_sub(last) > ASSERT_GAP_MS,
     }
 }
 

@@ -1,7 +1,8 @@
-//! Packets that have waited too long, and those that are flushed (ipmr.c, `ipmr_expire_process` and
-//! `mroute_clean_tables`).
+//! Packets that have waited too long, and those that are flushed (ipmr.c, `ipmr_expire_process`
+//! and `mroute_clean_tables`).
 
-ghost use Rattle.std.specs.Prelude.{◌≡◌, ◌+◌, ◌-◌, ◌^◌, ◌<◌, ◌≤◌, ◌++◌, [], length, map, slice_index};
+ghost use Rattle.std.specs.Prelude.{◌≡◌, ◌+◌, ◌-◌, ◌^◌, ◌<◌, ◌≤◌, ◌++◌, [], length, map};
+ghost use Rattle.std.specs.Prelude.{slice_index};
 ghost use Rattle.mr_model.specs.declared.ending.Fate.TheVariants.{Expired, Flushed};
 ghost use Rattle.mr_model.specs.declared.limits.Limits.{Limits};
 ghost use Rattle.mr_model.specs.State.{State, ticked};
@@ -28,13 +29,15 @@ fn end_packets(fates: &mut Fates, packets: &[Packet], fate: Fate)
     }
 }
 
-/// Drops the packets of the entries that have waited for ten seconds or more at this moment, by the
-/// tick of this number.
+/// Drops the packets of the entries that have waited for ten seconds or more at this moment, by
+/// the tick of this number.
 pub fn expire(waiting: &mut Waiting, fates: &mut Fates, moment: u64, number: u32)
-    ensures waiting { awaiting waiting.new.entries ≡ unexpired moment (awaiting waiting.old.entries) }
+    ensures waiting { awaiting waiting.new.entries
+        ≡ unexpired moment (awaiting waiting.old.entries) }
     ensures limit { waiting.new.limit ≡ waiting.old.limit }
     ensures lines { fates.new.lines
-        ≡ ended_all (Expired number) (expired moment (awaiting waiting.old.entries)) fates.old.lines }
+        ≡ ended_all (Expired number) (expired moment (awaiting waiting.old.entries))
+        fates.old.lines }
     ensures packets { fates.new.packets ≡ fates.old.packets }
 {
     while let Some(entry) = waiting.pop_expired(moment) {

@@ -1,4 +1,5 @@
-//! What a good call does beside the tables: the owner, the packets that wait, and what is released.
+//! What a good call does beside the tables: the owner, the packets that wait, and what is
+//! released.
 
 ghost use Rattle.std.specs.Prelude.{◌≡◌, ◌≤◌, List, Some, length, map};
 ghost use Rattle.mr_model.specs.declared.entry.Entry.{Entry};
@@ -21,10 +22,8 @@ use arrayvec::ArrayVec;
 use mr_base::{DaemonNo, Route};
 use mr_fates::Fates;
 use mr_model::{Change, Fate, Freed, ReleasedId, Request, What};
+use mr_tables::{MRT_FLUSH_MFC, has_flag};
 use mr_unres::{MOST_PACKETS, Waiting};
-
-/// MRT_FLUSH with this flag, and MRT_DONE, drop all packets that wait.
-const MRT_FLUSH_MFC: u32 = 1;
 
 /// The owner that a good call leaves; MRT_DONE empties the unread reports.
 pub fn set_owner(live: &mut Live, daemon: DaemonNo, request: &Request)
@@ -63,7 +62,7 @@ pub fn settle_waiting(waiting: &mut Waiting, fates: &mut Fates, change: &Change)
     match change.what {
         What::NewRoute { src, dst, .. } => waiting.release(src, dst),
         What::Flush(flags) => {
-            if flags & MRT_FLUSH_MFC != 0 {
+            if has_flag(flags, MRT_FLUSH_MFC) {
                 flush(waiting, fates, change.number);
             }
             ArrayVec::new()

@@ -1,13 +1,17 @@
 //! The machine as an object.
 
-ghost use Rattle.std.specs.Prelude.{◌≡◌, ◌<◌, ◌≤◌, ◌↔◌, [], List, length, map, option_map, IfOk, IfSome, IsErr, OnErr};
+ghost use Rattle.std.specs.Prelude.{◌≡◌, ◌<◌, ◌≤◌, ◌↔◌, [], List, length, map, option_map, IfOk};
+ghost use Rattle.std.specs.Prelude.{IfSome, IsErr, OnErr};
 ghost use Rattle.std.specs.List.{AllByRecursion};
-ghost use Rattle.mr_model.specs.declared.entry.Entry.TheVariants.{Call, Slow, Settle, Tick, Recv, EndPhase};
+ghost use Rattle.mr_model.specs.declared.entry.Entry.TheVariants.{Call, Slow, Settle, Tick, Recv};
+ghost use Rattle.mr_model.specs.declared.entry.Entry.TheVariants.{EndPhase};
 ghost use Rattle.mr_model.specs.Answer.{answer};
 ghost use Rattle.mr_model.specs.Ending.{ending};
-ghost use Rattle.mr_model.specs.Legal.{IsDaemon, IsLane, IsLegal, SettleAgrees, message_for, packets_given};
+ghost use Rattle.mr_model.specs.Legal.{IsDaemon, IsLane, IsLegal, SettleAgrees, message_for};
+ghost use Rattle.mr_model.specs.Legal.{packets_given};
 ghost use Rattle.mr_model.specs.Outcome.{outcome};
-ghost use Rattle.mr_model.specs.Past.{controls, phases, packets, last_index, last_look, last_end, own_before_slow};
+ghost use Rattle.mr_model.specs.Past.{controls, phases, packets, last_index, last_look, last_end};
+ghost use Rattle.mr_model.specs.Past.{own_before_slow};
 ghost use Rattle.mr_model.specs.State.{state};
 ghost use Rattle.mr_history.specs.Fits.{FitsLimits};
 ghost use Rattle.mr_kernel.specs.Flows.{IsKnown, IsHeadOf, flow_of, id_of, back_by};
@@ -35,8 +39,8 @@ use mr_upcall::{Queue, Upcall};
 use std::alloc::{AllocError, Global};
 use std::marker::Model;
 
-/// The multicast forwarder as a machine of one thread: it owns its journal, its tables, the packets
-/// that wait and the unread reports.
+/// The multicast forwarder as a machine of one thread: it owns its journal, its tables, the
+/// packets that wait and the unread reports.
 ///
 /// Contracts see its limits and its history, which is always legal; all else that it knows is what
 /// the definitions give of these. All memory is taken when it is made.
@@ -151,9 +155,9 @@ impl Kernel {
         }
     }
 
-    /// A packet of a lane is decided: what became of it, and the packet itself, but where it waits.
-    /// It is the lane's next one, from one of the limits' devices, and `look` is how many history
-    /// entries the tables had seen by which it was first looked up.
+    /// A packet of a lane is decided: what became of it, and the packet itself, but where it
+    /// waits. It is the lane's next one, from one of the limits' devices, and `look` is how many
+    /// history entries the tables had seen by which it was first looked up.
     pub fn slow(&mut self, lane: LaneNo, packet: Packet, look: u32) -> (Outcome, Option<Packet>)
         requires lane { IsLane self.old.limits lane }
         requires own { packet.lane ≡ lane }

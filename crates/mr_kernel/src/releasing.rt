@@ -1,6 +1,7 @@
 //! Packets that a new entry releases (ipmr.c, `ipmr_cache_resolve`).
 
-ghost use Rattle.std.specs.Prelude.{◌≡◌, ◌≤◌, ◌∷◌, [], List, true, length, map, fold, IfNone, IfSome};
+ghost use Rattle.std.specs.Prelude.{◌≡◌, ◌≤◌, ◌∷◌, [], List, true, length, map, fold, IfNone};
+ghost use Rattle.std.specs.Prelude.{IfSome};
 ghost use Rattle.std.specs.List.{list_any};
 ghost use Rattle.mr_model.specs.declared.entry.Entry.{Entry};
 ghost use Rattle.mr_model.specs.declared.limits.Limits.{Limits};

@@ -29,7 +29,8 @@ pub fn answer(
     requires plan { plan (record { limits = journal.old.limits; history = journal.old.entries })
         daemon request.now ≡ Answer reply }
     ensures entry { journal.new ≡ with_entry journal.old (Call daemon request.now reply []) }
-    ensures agrees { CallAgrees journal.old.limits journal.old.entries daemon request.now reply [] }
+    ensures agrees { CallAgrees journal.old.limits journal.old.entries daemon request.now reply
+        [] }
     ensures holds { (f : FateList) → Holds journal.old live.old f → Holds journal.new live.new f }
 {
     journal.push_call(daemon, request, &reply, &[], &[]);

@@ -1,6 +1,7 @@
 //! Reports of decided packets (ipmr.c, `ipmr_cache_report`).
 
-ghost use Rattle.std.specs.Prelude.{◌≡◌, ◌<◌, ℕ, List, true, length, map, option_map, option_to_list, IfSome};
+ghost use Rattle.std.specs.Prelude.{◌≡◌, ◌<◌, ℕ, List, true, length, map, option_map};
+ghost use Rattle.std.specs.Prelude.{option_to_list, IfSome};
 ghost use Rattle.mr_model.specs.declared.entry.Entry.{Entry};
 ghost use Rattle.mr_model.specs.declared.limits.Limits.{Limits};
 ghost use Rattle.mr_model.specs.Messages.{told_by, attempts_by};
@@ -90,7 +91,8 @@ fn tell(live: &mut Live, lane: LaneNo, index: u32, head: &Head, outcome: &Outcom
     ensures stands { (limits : Limits) (s : State) → StandsFor limits s live.old →
         (tells outcome.now ≡ true → length s.unread < 64) →
         StandsFor limits (told s lane index outcome.now) live.new }
-    ensures heads { (h : List Entry) → AreHeads h live.old.unread → IsHeadOf h lane index head.now →
+    ensures heads { (h : List Entry) → AreHeads h live.old.unread
+        → IsHeadOf h lane index head.now →
         AreHeads h live.new.unread }
     ensures tables { live.new.tables ≡ live.old.tables }
     ensures moment { live.new.moment ≡ live.old.moment }
@@ -106,7 +108,8 @@ pub fn report(live: &mut Live, lane: LaneNo, index: u32, head: &Head, outcome: &
     ensures stands { (limits : Limits) (s : State) → StandsFor limits s live.old →
         (tells outcome.now ≡ true → length s.unread < 64) →
         StandsFor limits (reported s lane index outcome.now) live.new }
-    ensures heads { (h : List Entry) → AreHeads h live.old.unread → IsHeadOf h lane index head.now →
+    ensures heads { (h : List Entry) → AreHeads h live.old.unread
+        → IsHeadOf h lane index head.now →
         AreHeads h live.new.unread }
     ensures tables { live.new.tables ≡ live.old.tables }
     ensures moment { live.new.moment ≡ live.old.moment }

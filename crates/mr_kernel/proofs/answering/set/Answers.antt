@@ -1,4 +1,5 @@
-use Rattle.std.proofs.Common.{◌≡◌, ◌+◌, ◌∙◌, ℕ, Bool, true, false, List, length, not, sym, subst, ap}
+use Rattle.std.proofs.Common.{◌≡◌, ◌+◌, ◌∙◌, ℕ, Bool, true, false, List, length, not, sym, subst}
+use Rattle.std.proofs.Common.{ap}
 use Rattle.mr_base.specs.declared.route.Route.{Route}
 use Rattle.mr_model.specs.declared.limits.Limits.{Limits}
 use Rattle.mr_model.specs.Answer.{value_of, refused_by_tables}
@@ -17,7 +18,8 @@ returns-then-not-may_ask c =
     let j = c.args.journal.now in
     let s = state j.limits j.entries in
     let may : may_ask j.limits s c.args.daemon c.args.request.now ≡ false =
-    ap (λ (l : Limits). may_ask l s c.args.daemon c.args.request.now) (sym c.limits.ensures) ∙ sym (c.may_ask.ensures s c.requires.stands.owner) ∙ c.if-not-may_ask.true in
+    ap (λ (l : Limits). may_ask l s c.args.daemon c.args.request.now) (sym c.limits.ensures)
+    ∙ sym (c.may_ask.ensures s c.requires.stands.owner) ∙ c.if-not-may_ask.true in
     c.refused.ensures ∙ set_refused j c.args.daemon c.args.request.now c.requires.sets may
 
 pub change-requires-clause-above : goal.change-requires-clause-above
@@ -32,7 +34,9 @@ returns c =
     let d = c.args.daemon in
     let r = c.args.request.now in
     let may : may_ask j.limits s d r ≡ true =
-    ap (λ (l : Limits). may_ask l s d r) (sym c.limits.ensures) ∙ sym (c.may_ask.ensures s c.requires.stands.owner) ∙ c.if-not-may_ask.false in
+    ap (λ (l : Limits). may_ask l s d r) (sym c.limits.ensures)
+    ∙ sym (c.may_ask.ensures s c.requires.stands.owner) ∙ c.if-not-may_ask.false in
     c.change.ensures j.limits s (value_of j.entries s r) c.requires.stands
-    ∙ ap (λ n. plan_by (n + 1) (value_of j.entries s r) (refused_by_tables j.limits s r) (what_of j.limits.devices s.tables (not (is_owner s d)) r)) c.len.ensures
+    ∙ ap (λ n. plan_by (n + 1) (value_of j.entries s r) (refused_by_tables j.limits s r)
+    (what_of j.limits.devices s.tables (not (is_owner s d)) r)) c.len.ensures
     ∙ set_granted j d r c.requires.sets may

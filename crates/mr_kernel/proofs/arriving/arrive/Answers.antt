@@ -9,7 +9,8 @@ pub returns-clause-stands : goal.returns-clause-stands
 returns-clause-stands c limits s st is =
     let flow = flow_of c.args.packet in
     subst (λ (t : State). StandsFor limits t c.report.new.live)
-    (sym (arrived_reports s c.args.packet.lane c.args.packet.index flow c.args.outcome.now c.in_default.not-Parked))
+    (sym (arrived_reports s c.args.packet.lane c.args.packet.index flow c.args.outcome.now
+    c.in_default.not-Parked))
     (c.report.ensures.stands limits s st (outcome_room limits s flow c.args.outcome.now is))
 
 pub returns-clause-back : goal.returns-clause-back

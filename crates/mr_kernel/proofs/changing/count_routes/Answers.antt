@@ -2,7 +2,8 @@ use Rattle.std.proofs.Common.{◌∙◌, ap, sym, refl, ℕ, List, Option}
 use Rattle.mr_history.specs.Journals.{remove_number}
 use Rattle.mr_history.specs.Numbers.{without_value}
 use Rattle.mr_model.specs.RouteList.{has_number}
-use Rattle.mr_kernel.proofs.ChangesRoutes.{number_there, numbers_without, moments_without, numbers_changed, moments_changed}
+use Rattle.mr_kernel.proofs.ChangesRoutes.{number_there, numbers_without, moments_without}
+use Rattle.mr_kernel.proofs.ChangesRoutes.{numbers_changed, moments_changed}
 use Rattle.mr_kernel.proofs.changing.count_routes.Goals as goal
 
 pub forget_route-requires-clause-one : goal.forget_route-requires-clause-one

@@ -4,7 +4,8 @@ use Rattle.mr_history.specs.Journals.{JournalValue, has_number}
 use Rattle.mr_kernel.specs.Holding.{numbers}
 use Rattle.mr_kernel.specs.Standing.{moments}
 use Rattle.mr_kernel.proofs.ChangesRoutes.{number_there}
-use Rattle.mr_kernel.proofs.Walks.{kept_from, walk_all, walk_end, walk_less, walk_there, journal_all, journal_step, kept_step, moments_step}
+use Rattle.mr_kernel.proofs.Walks.{kept_from, walk_all, walk_end, walk_less, walk_there}
+use Rattle.mr_kernel.proofs.Walks.{journal_all, journal_step, kept_step, moments_step}
 use Rattle.mr_kernel.proofs.changing.flush_routes.Goals as goal
 
 pub loop-below-init : goal.loop-below-init

@@ -9,7 +9,10 @@ use Rattle.mr_kernel.proofs.changing.flush_routes.Given as goal
 abbrev pub invariant-loop-below : goal.invariant-loop-below
 invariant-loop-below l = record {
   journal : l.journal
-      ≡ record l.fn.journal { routes = numbers (kept_from l.loose l.fixed l.below l.cache.routes) };
+      ≡ record l.fn.journal {
+        routes =
+            numbers (kept_from l.loose l.fixed l.below l.cache.routes);
+      };
   attempts : numbers_of l.attempts.items
       ≡ numbers (kept_from l.loose l.fixed l.below l.cache.routes);
   moments : (made : List Attempt) → l.fn.attempts.items ≡ moments made l.cache.routes

@@ -7,6 +7,8 @@ use Rattle.mr_kernel.proofs.closing.vif_lines.Given as goal
 
 abbrev pub invariant-loop-i : goal.invariant-loop-i
 invariant-loop-i l =
-    (l.pairs.items ++ flat_map (λ i. option_to_list (option_map (vif_pair l.journal.entries) (vif_at l.vifs i))) (drop l.i-index l.indexes)
-    ≡ flat_map (λ i. option_to_list (option_map (vif_pair l.journal.entries) (vif_at l.vifs i))) l.indexes)
+    (l.pairs.items ++ flat_map (λ i. option_to_list
+    (option_map (vif_pair l.journal.entries) (vif_at l.vifs i))) (drop l.i-index l.indexes)
+    ≡ flat_map (λ i. option_to_list (option_map (vif_pair l.journal.entries) (vif_at l.vifs i)))
+    l.indexes)
     × AllByRecursion (λ i. i < 32) (drop l.i-index l.indexes)

@@ -11,7 +11,9 @@ returns-in-Some c =
     let j = c.args.journal.now in
     let v = c.in_ok-record.record in
     let there = c.in_ok-record.ensures in
-    let kept = vif_kept j c.args.vifs.now c.args.i v c.requires.kept c.requires.small (sym there) in
+    let kept = vif_kept j c.args.vifs.now c.args.i v c.requires.kept c.requires.small
+    (sym there) in
     let given = c.in-Some.ensures in
     let same : c.in-Some.totals ≡ vif_counts j.entries v = cc in
-    ap (λ (t : VifTotals). Some (v, t)) same ∙ ap (λ (o : Option VifRecord). option_map (vif_pair j.entries) o) there
+    ap (λ (t : VifTotals). Some (v, t)) same
+    ∙ ap (λ (o : Option VifRecord). option_map (vif_pair j.entries) o) there

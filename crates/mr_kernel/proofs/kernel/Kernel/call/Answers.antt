@@ -13,13 +13,19 @@ invariant_of-self c = c.answer.ensures.holds c.self.inside.fates c.self.invarian
 
 pub returns-in-Answer-clause-reply : goal.returns-in-Answer-clause-reply
 returns-in-Answer-clause-reply c =
-    subst (λ (v : KernelValue). c.in-Answer.reply ≡ (answer v.limits v.history c.args.daemon c.args.request.now).reply) c.self.view_is c.answer.ensures.agrees.replies
+    subst (λ (v : KernelValue). c.in-Answer.reply
+    ≡ (answer v.limits v.history c.args.daemon c.args.request.now).reply) c.self.view_is
+    c.answer.ensures.agrees.replies
 
 pub returns-in-Answer-clause-released : goal.returns-in-Answer-clause-released
 returns-in-Answer-clause-released c =
     ap (λ (fs : List Freed). map id_of fs) c.new.ensures
-    ∙ subst (λ (v : KernelValue). [] ≡ (answer v.limits v.history c.args.daemon c.args.request.now).released) c.self.view_is c.answer.ensures.agrees.releases
+    ∙ subst (λ (v : KernelValue). []
+    ≡ (answer v.limits v.history c.args.daemon c.args.request.now).released) c.self.view_is
+    c.answer.ensures.agrees.releases
 
 pub returns-in-Tables-clause-packets : goal.returns-in-Tables-clause-packets
 returns-in-Tables-clause-packets c =
-    subst (λ (v : KernelValue). AllByRecursion (λ f. IsKnown v.history f.packet) c.change-freed.result.items) c.self.view_is c.change-freed.ensures.known
+    subst (λ (v : KernelValue). AllByRecursion
+    (λ f. IsKnown v.history f.packet) c.change-freed.result.items) c.self.view_is
+    c.change-freed.ensures.known
