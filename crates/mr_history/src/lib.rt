@@ -14,6 +14,8 @@ mod seeing;
 mod small;
 mod store;
 mod store_pushes;
+#[cfg(test)]
+mod tests;
 mod totals;
 mod unfolding;
 mod view;
