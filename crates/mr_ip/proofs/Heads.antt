@@ -73,6 +73,15 @@ pub head_within : (bs : List ℕ) → cause_in (length bs) bs ≡ None
     → (20 ≤ head_length bs) × (head_length bs ≤ length bs)
 head_within bs e = between 20 (head_length bs) (length bs) (passes (length bs) bs e).whole
 
+pub enough : (bs : List ℕ) → cause_in (length bs) bs ≡ None → 20 ≤ length bs
+enough bs e = omega (arith, head_within bs e)
+
+-- The total length of accepted bytes holds the head, and is among them.
+pub total_within : (bs : List ℕ) → cause_in (length bs) bs ≡ None
+    → (head_length bs ≤ two_at bs 2) × (two_at bs 2 ≤ length bs)
+total_within bs e =
+    between (head_length bs) (two_at bs 2) (length bs) (passes (length bs) bs e).total
+
 pub at_least : (n m : ℕ) → n ≤ m → nat_lt m n ≡ false
 at_least n m h = grind (arith, nat_tests)
 

@@ -15,5 +15,5 @@ mod tests;
 pub use address::{is_bad_source, is_link_local, is_multicast};
 pub use making::make_head;
 pub use mr_base::HeadError;
-pub use reading::read_head;
+pub use reading::{accepted_body, accepted_head, read_head};
 pub use sending::sent_head;

@@ -2,6 +2,7 @@
 ghost use Rattle.std.specs.Prelude.{◌≡◌, ◌≤◌, length, Some, None, IfOk, IfErr};
 ghost use Rattle.mr_base.specs.Heads as heads;
 ghost use Rattle.mr_base.specs.AcceptedHeads.{IsHeadOf};
+ghost use Rattle.mr_ip.specs.Bodies.{body_of};
 
 use crate::cause::cause_of;
 use crate::fields::{four_at, head_length, two_at};
@@ -23,6 +24,35 @@ pub fn read_head(bytes: &[u8]) -> Result<Head, HeadError>
         Some(cause) => Err(cause),
         None => Ok(head_of(bytes)),
     }
+}
+
+/// The head with which accepted bytes begin, options included (RFC 791 section 3.1). It takes no
+/// memory.
+pub fn accepted_head(bytes: &[u8]) -> Head
+    requires { heads.cause_of bytes.now ≡ None }
+    ensures { IsHeadOf result bytes.now }
+{
+    head_of(bytes)
+}
+
+/// What stands behind the head of accepted bytes, up to the packet's total length.
+pub fn accepted_body(bytes: &[u8]) -> &[u8]
+    requires { heads.cause_of bytes.now ≡ None }
+    ensures { result.now ≡ body_of bytes.now }
+{
+    body_in(bytes)
+}
+
+/// What stands behind the head, up to the total length.
+fn body_in(bytes: &[u8]) -> &[u8]
+    requires enough { 20 ≤ length bytes.now }
+    requires head { heads.head_length bytes.now ≤ heads.two_at bytes.now 2 }
+    requires total { heads.two_at bytes.now 2 ≤ length bytes.now }
+    ensures { result.now ≡ body_of bytes.now }
+{
+    let head = head_length(bytes);
+    let total = usize::from(two_at(bytes, 2));
+    &bytes[head..total]
 }
 
 /// The head with which accepted bytes begin.

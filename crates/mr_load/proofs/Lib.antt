@@ -1,4 +1,6 @@
 pub mod LawPackets
+pub mod LawDues
+pub mod HeldDues
 pub mod Skipped
 pub mod Counting
 pub mod AllBytes

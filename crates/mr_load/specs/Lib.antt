@@ -1,5 +1,7 @@
 pub mod Callers
 pub mod Made
+pub mod Dues
+pub mod HeldBytes
 pub mod Loading
 pub mod Unbuilt
 pub mod Told

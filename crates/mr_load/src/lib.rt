@@ -2,6 +2,7 @@
 //! scenario has to have: each lane's packets and each daemon's calls, once and in their order.
 #![tactic(auto)]
 
+mod lane;
 mod laws;
 mod loading;
 mod parts;
@@ -9,7 +10,8 @@ mod skips;
 mod status;
 mod unbuilt;
 
-pub use laws::every_item;
+pub use lane::LanePackets;
+pub use laws::{every_item, lanes_by_phases};
 pub use loading::{Loaded, load};
 pub use parts::{devices_of, lines_of, phases_of};
 pub use status::Status;
