@@ -13,6 +13,7 @@ mod sum;
 mod tests;
 
 pub use address::{is_bad_source, is_link_local, is_multicast};
+pub use cause::cause_of;
 pub use making::make_head;
 pub use mr_base::HeadError;
 pub use reading::{accepted_body, accepted_head, read_head};

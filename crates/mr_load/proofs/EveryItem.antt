@@ -10,7 +10,7 @@ use Rattle.mr_load.specs.Laws.{EveryItem}
 use Rattle.mr_load.specs.Loading.{skip_by, skip_of, skips_from}
 use Rattle.mr_load.specs.Made.{Sent, packet_of, packets_from, items_of}
 use Rattle.mr_load.specs.Unbuilt.{is_trace}
-use Rattle.mr_load.proofs.Skipped.{items_one}
+use Rattle.mr_load.proofs.Numbered.{items_one}
 use Rattle.mr_scenario.specs.declared.scenario.Given.{Given}
 use Rattle.mr_scenario.specs.declared.scenario.Given.TheVariants.{Bytes, Trace}
 

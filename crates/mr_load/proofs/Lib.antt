@@ -1,8 +1,10 @@
 pub mod LawPackets
 pub mod LawDues
 pub mod HeldDues
-pub mod Skipped
-pub mod Counting
+pub mod Numbered
+pub mod EachLane
+pub mod LanePasses
+pub mod Gathered
 pub mod AllBytes
 pub mod EveryItem
 pub mod Loads

@@ -7,7 +7,8 @@ pub mod Unbuilt
 pub mod Told
 pub mod Faults
 pub mod Refusals
-pub mod Skipping
+pub mod Passing
+pub mod Gathering
 pub mod Loads
 pub mod Statuses
 pub mod Laws

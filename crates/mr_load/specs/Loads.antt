@@ -1,24 +1,23 @@
 -- What loading gives.
-use Rattle.std.specs.Prelude.{◌≡◌, ℕ, Option, Result, Ok, Err, List, length, map, flat_map, Contains}
+use Rattle.std.specs.Prelude.{◌≡◌, ℕ, Option, Result, Ok, Err, List, map, Contains}
 use Rattle.mr_base.specs.Outside.{Files}
 use Rattle.mr_load.specs.Callers.{one_to}
-use Rattle.mr_load.specs.Loading.{run_limits, skips_from, skip_devs_in, skips_of, skip_devs_of, items_in}
-use Rattle.mr_load.specs.Made.{packets_from}
+use Rattle.mr_load.specs.Dues.{lane_of}
+use Rattle.mr_load.specs.Loading.{run_limits, skips_of, skip_devs_of}
 use Rattle.mr_load.specs.Refusals.{loaded, files_read}
 use Rattle.mr_load.specs.Told.{IsTold}
 use Rattle.mr_load.specs.Unbuilt.{AllBytes}
 use Rattle.mr_load.specs.declared.loading.Loaded.{Loaded}
-use Rattle.mr_load.specs.declared.skips.Passed.{Passed}
 use Rattle.mr_load.specs.declared.status.Status.{Status}
 use Rattle.mr_load.specs.declared.status.Status.TheVariants as status
 use Rattle.mr_scenario.specs.Fits.{Fits}
-use Rattle.mr_scenario.specs.declared.scenario.Phase.{Phase}
 
 -- A scenario whose lines are built, with what its items give.
 pub record IsLoaded (files : Files) (l : Loaded) : Type 0 where
   pub fits : Fits l.scenario
   pub bytes : AllBytes l.scenario.phases
   pub limits : l.limits ≡ run_limits files l.scenario
+  pub lanes : l.lanes ≡ map (lane_of files l.scenario) (one_to l.scenario.lanes)
   pub skips : l.skips ≡ skips_of files l.scenario
   pub skip_devs : l.skip_devs ≡ skip_devs_of files l.scenario
 
@@ -27,12 +26,6 @@ abbrev pub Gives : {A B : Type 0} → (A → B) → Result A Status → Result B
 Gives view (Ok x) value = value ≡ Ok (view x)
 Gives view (Err status.Memory) value = Unit {0}
 Gives view (Err s) value = value ≡ Err s
-
--- the skips of the first n lanes, and how many packets each of them has
-pub record PassesLanes (files : Files) (n : ℕ) (ps : List Phase) (now : Passed) (numbers : List ℕ) : Type 0 where
-  pub skips : now.skips.items ≡ flat_map (λ lane. skips_from files lane 1 (items_in ps)) (one_to n)
-  pub devs : now.devs.items ≡ flat_map (λ lane. skip_devs_in files lane (items_in ps)) (one_to n)
-  pub counts : numbers ≡ map (λ lane. length (packets_from files lane 1 (items_in ps))) (one_to n)
 
 -- What the scenario of a file comes to over these files: what is loaded, or the status by which it is refused. A fault names a
 -- file that was to be read; memory may run out. Loading refuses by no other status.

@@ -2,11 +2,12 @@
 //! scenario has to have: each lane's packets and each daemon's calls, once and in their order.
 #![tactic(auto)]
 
+mod gathering;
 mod lane;
 mod laws;
 mod loading;
 mod parts;
-mod skips;
+mod passing;
 mod status;
 mod unbuilt;
 

@@ -1,23 +1,23 @@
 //! A scenario is loaded: read, and its items told apart into packets and skips.
 
-ghost use Rattle.std.specs.Prelude.{◌≡◌, ◌≤◌, ◌++◌, ◌∷◌, [], length, IfOk, OnOk};
+ghost use Rattle.std.specs.Prelude.{◌≡◌, ◌≤◌, length, IfOk};
 ghost use Rattle.mr_base.specs.Outside.{Files, AllStay, Rose};
 ghost use Rattle.mr_load.specs.Faults.{failed_read};
-ghost use Rattle.mr_load.specs.Loading.{items_in, skips_from, skip_devs_in};
-ghost use Rattle.mr_load.specs.Loads.{IsLoaded, Gives, PassesLanes, LoadsTo, IfFault};
-ghost use Rattle.mr_load.specs.Made.{packets_from};
+ghost use Rattle.mr_load.specs.Loads.{IsLoaded, Gives, LoadsTo, IfFault};
 ghost use Rattle.mr_load.specs.Refusals.{scenario_of};
 ghost use Rattle.mr_load.specs.Unbuilt.{AllBytes};
 ghost use Rattle.mr_scenario.specs.Fits.{Fits};
 
+use crate::gathering::{Gathered, gather};
+use crate::lane::LanePackets;
 use crate::parts::{limits_of, phases_of};
-use crate::skips::{Passed, pass_phases};
+use crate::passing::pass_lanes;
 use crate::status::Status;
 use crate::unbuilt::first_unbuilt;
 use mr_base::{FileName, List, ReadError, Store};
 use mr_lines::Skip;
 use mr_model::Limits;
-use mr_scenario::{Phase, Scenario, ScenarioError};
+use mr_scenario::{Scenario, ScenarioError};
 use std::alloc::{AllocError, Global};
 
 /// A scenario that was read, with what its items give.
@@ -26,55 +26,12 @@ pub struct Loaded {
     pub scenario: Scenario,
     /// The scenario's limits, with the number of packets of each lane.
     pub limits: Limits,
+    /// Each lane's packets, from lane 1 on.
+    pub lanes: List<LanePackets>,
     /// The items whose head is refused, by lane and then by item.
     pub skips: List<Skip>,
     /// The device of each skip's item.
     pub skip_devs: List<u32>,
-}
-
-/// The items of one lane more.
-fn pass_lane(
-    passed: &mut Passed,
-    counts: &mut Vec<u32>,
-    lane: u32,
-    phases: &[Phase],
-) -> Result<(), AllocError>
-    requires { length (items_in phases.now) ≤ 1048576 }
-    ensures skips { OnOk result ((files : Files) →
-        passed.new.skips.items
-        ≡ passed.old.skips.items ++ skips_from files lane 1 (items_in phases.now)) }
-    ensures devs { OnOk result ((files : Files) →
-        passed.new.devs.items
-        ≡ passed.old.devs.items ++ skip_devs_in files lane (items_in phases.now)) }
-    ensures counts { OnOk result ((files : Files) →
-        counts.new.items
-        ≡ counts.old.items ++ length (packets_from files lane 1 (items_in phases.now)) ∷ []) }
-{
-    passed.next = 1;
-    passed.packets = 0;
-    pass_phases(passed, lane, phases)?;
-    counts.push(passed.packets)?;
-    Ok(())
-}
-
-/// The items of so many lanes: what they give, and how many packets each lane has.
-fn pass_lanes(alloc: Global, lanes: u32, phases: &[Phase]) -> Result<(Passed, Vec<u32>), AllocError>
-    requires few { lanes ≤ 16 }
-    requires items { length (items_in phases.now) ≤ 1048576 }
-    ensures { IfOk result (λ r. (files : Files) →
-        PassesLanes files lanes phases.now r.0 r.1.items) }
-{
-    let mut passed = Passed {
-        skips: Vec::new(alloc),
-        devs: Vec::new(alloc),
-        next: 1,
-        packets: 0,
-    };
-    let mut counts = Vec::with_capacity(alloc, lanes as usize)?;
-    for i in 0..lanes {
-        pass_lane(&mut passed, &mut counts, i + 1, phases)?;
-    }
-    Ok((passed, counts))
 }
 
 /// The limits of a scenario whose lanes have these numbers of packets.
@@ -99,13 +56,20 @@ fn with_items(alloc: Global, scenario: Scenario) -> Result<Loaded, AllocError>
     ensures scenario { IfOk result (λ l. l.scenario ≡ scenario) }
     ensures loaded { IfOk result (λ l. (files : Files) → IsLoaded files l) }
 {
-    let (passed, counts) = pass_lanes(alloc, scenario.lanes, phases_of(&scenario))?;
+    let passed = pass_lanes(alloc, scenario.lanes, phases_of(&scenario))?;
+    let Gathered {
+        lanes,
+        counts,
+        skips,
+        devs,
+    } = gather(alloc, passed)?;
     let limits = limits_with(limits_of(&scenario), counts)?;
     Ok(Loaded {
         scenario,
         limits,
-        skips: List(passed.skips),
-        skip_devs: List(passed.devs),
+        lanes: List(lanes),
+        skips: List(skips),
+        skip_devs: List(devs),
     })
 }
 
