@@ -10,6 +10,7 @@ use Rattle.mr_model.specs.declared.entry.Entry.TheVariants.{Call, Slow, Settle, 
 use Rattle.mr_model.specs.declared.flow.Flow.{Flow}
 use Rattle.mr_model.specs.Past.{is_end}
 use Rattle.mr_model.specs.declared.request.Request.TheVariants.{Unknown}
+use Rattle.mr_opt.specs.Options.{request_of}
 use Rattle.mr_scenario.specs.declared.scenario.Given.{Given}
 use Rattle.mr_scenario.specs.declared.scenario.Given.TheVariants.{Bytes, Trace}
 use Rattle.mr_scenario.specs.declared.scenario.Item.{Item}
@@ -72,9 +73,11 @@ items_of files lane is = sum_by (λ i. if i.lane.0 == lane then 1 else 0) is
 abbrev pub to_send : Files → ℕ → List Item → Phase → List Sent
 to_send files lane before p = packets_from files lane (items_of files lane before + 1) p.items
 
--- A line that asks for another table asks for an option that cannot be set (MRT_TABLE, 209).
+-- A line that asks for another table asks for an option that cannot be set (MRT_TABLE, 209). A record makes the call that it
+-- spells.
 abbrev pub as_asked : Script → Script
 as_asked (script.Table n) = script.Ask (Unknown 209)
+as_asked (script.Raw opt bytes) = script.Ask (request_of opt bytes)
 as_asked s = s
 
 abbrev pub of_daemon : ℕ → ScriptLine → List Script

@@ -1,9 +1,6 @@
--- The lines of a scenario whose form is not built yet: smcroute daemons, traces, and all operations but `init`, `addvif` and
--- `addmfc`.
+-- The lines of a scenario whose form is not built yet: daemons of smcroute with their lines, and traces.
 use Rattle.std.specs.Prelude.{◌≡◌, ℕ, min, Bool, true, false, if◌then◌else◌, Option, Some, None, List, [], ◌∷◌, flat_map, bytes_eq, codes}
 use Rattle.std.specs.List.{list_any, AllByRecursion}
-use Rattle.mr_model.specs.declared.request.Request.{Request}
-use Rattle.mr_model.specs.declared.request.Request.TheVariants as request
 use Rattle.mr_scenario.specs.PhaseLines.{is_smc}
 use Rattle.mr_scenario.specs.Spelled.{next_line}
 use Rattle.mr_scenario.specs.declared.scenario.Given.{Given}
@@ -16,15 +13,12 @@ use Rattle.mr_scenario.specs.declared.scenario.Script.TheVariants as script
 use Rattle.mr_scenario.specs.declared.scenario.ScriptLine.{ScriptLine}
 use Rattle.mr_words.specs.Words.{lines_of, without_return, words_of}
 
-abbrev pub is_built_request : Request → Bool
-is_built_request request.Init = true
-is_built_request (request.AddVif c) = true
-is_built_request (request.AddMfc c) = true
-is_built_request _ = false
-
+-- Operations of smcroute are not built.
 abbrev pub is_built_script : Script → Bool
-is_built_script (script.Ask r) = is_built_request r
-is_built_script _ = false
+is_built_script script.Start = false
+is_built_script (script.Poll n) = false
+is_built_script (script.Words ws) = false
+is_built_script _ = true
 
 abbrev pub is_trace : Given → Bool
 is_trace (Bytes bs) = false

@@ -2,6 +2,8 @@
 
 ghost use Rattle.std.specs.Prelude.{◌≡◌};
 
+use crate::lane::LanePackets;
+use crate::loading::Loaded;
 use mr_model::Limits;
 use mr_scenario::{DaemonKind, Item, Named, Phase, Scenario, ScriptLine};
 
@@ -45,4 +47,11 @@ pub fn devices_of(scenario: &Scenario) -> &[Named]
     ensures { result.now ≡ scenario.now.devices }
 {
     scenario.devices.0.as_slice()
+}
+
+/// Each lane's packets, from lane 1 on.
+pub fn lanes_of(loaded: &Loaded) -> &[LanePackets]
+    ensures { result.now ≡ loaded.now.lanes }
+{
+    loaded.lanes.0.as_slice()
 }

@@ -2,32 +2,22 @@
 
 ghost use Rattle.std.specs.Prelude.{◌≡◌, flat_map};
 ghost use Rattle.std.specs.List.{list_any};
-ghost use Rattle.mr_load.specs.Unbuilt.{is_built_request, is_built_script, is_trace, unbuilt_item, unbuilt_script, lesser, least_from, least_with, least_in, begins_smc, smc_from, smc_line, first_unbuilt};
+ghost use Rattle.mr_load.specs.Unbuilt.{is_built_script, is_trace, unbuilt_item, unbuilt_script, lesser, least_from, least_with, least_in, begins_smc, smc_from, smc_line, first_unbuilt};
 ghost use Rattle.mr_scenario.specs.PhaseLines.{is_smc};
 ghost use Rattle.mr_words.specs.Words.{lines_of, words_of};
 
 use crate::parts::{daemons_of, items_of, lines_of, phases_of};
-use mr_model::Request;
 use mr_scenario::{DaemonKind, Given, Item, Phase, Scenario, Script, ScriptLine};
 use mr_words::{next_word, split_line, trimmed};
-
-fn is_built_request(request: &Request) -> bool
-    ensures { result ≡ is_built_request request.now }
-{
-    match request {
-        Request::Init => true,
-        Request::AddVif(_) => true,
-        Request::AddMfc(_) => true,
-        _ => false,
-    }
-}
 
 fn is_built_script(script: &Script) -> bool
     ensures { result ≡ is_built_script script.now }
 {
     match script {
-        Script::Ask(request) => is_built_request(request),
-        _ => false,
+        Script::Start => false,
+        Script::Poll(_) => false,
+        Script::Words(_) => false,
+        _ => true,
     }
 }
 
