@@ -1,11 +1,12 @@
 //! A scenario is loaded: read, and its items told apart into packets and skips.
 
-ghost use Rattle.std.specs.Prelude.{◌≡◌, ◌≤◌, length, IfOk};
+ghost use Rattle.std.specs.Prelude.{◌≡◌, ◌≤◌, ◌++◌, ◌∷◌, [], length, false, Err, None, IfOk, IfSome};
 ghost use Rattle.mr_base.specs.Outside.{Files, AllStay, Rose};
-ghost use Rattle.mr_load.specs.Faults.{failed_read};
+ghost use Rattle.mr_load.specs.Faults.{failed_read, is_fault, read_of};
 ghost use Rattle.mr_load.specs.Loads.{IsLoaded, Gives, LoadsTo, IfFault};
 ghost use Rattle.mr_load.specs.Refusals.{scenario_of};
 ghost use Rattle.mr_load.specs.Unbuilt.{AllBytes};
+ghost use Rattle.mr_load.specs.declared.status.Status.TheVariants as status;
 ghost use Rattle.mr_scenario.specs.Fits.{Fits};
 
 use crate::gathering::{Gathered, gather};
@@ -76,6 +77,7 @@ fn with_items(alloc: Global, scenario: Scenario) -> Result<Loaded, AllocError>
 /// The scenario that bytes spell, if its lines are built.
 fn load_bytes(alloc: Global, bytes: &[u8]) -> Result<Loaded, Status>
     ensures scenario { Gives (λ l. l.scenario) result (scenario_of bytes.now) }
+    ensures no_fault { is_fault result ≡ false }
     ensures loaded { IfOk result (λ l. (files : Files) → IsLoaded files l) }
 {
     let scenario = match mr_scenario::read(alloc, bytes) {
@@ -94,11 +96,15 @@ fn load_bytes(alloc: Global, bytes: &[u8]) -> Result<Loaded, Status>
     }
 }
 
-/// Reads the scenario of this name from the store, whose name has 1 to 255 bytes, and tells its items apart into packets and
-/// skips. The sessions of `serve` are not built yet.
+/// Reads the scenario of this name from the store, whose name has 1 to 255 bytes, and gives each
+/// lane its packets and its skips. It reads that file once, and no other one. The sessions of
+/// `serve` are not built yet.
 ///
-/// Errors, in their order: `StoreFault`, where the file cannot be read; `Scenario` with the first bad line; `NotBuilt` with the
-/// first line whose form is not built yet. `Memory` may come wherever memory is taken.
+/// # Errors
+///
+/// In their order: `StoreFault` exactly where the file cannot be read; `Scenario` with the first bad
+/// line; `NotBuilt` with the first line whose form is not built yet. `Memory` may come wherever
+/// memory is taken, and not in place of a fault.
 pub fn load<S: Store>(
     alloc: Global,
     file: &str,
@@ -108,8 +114,13 @@ pub fn load<S: Store>(
     requires named { 1 ≤ length file.now }
     requires fits { length file.now ≤ 255 }
     ensures loads { LoadsTo (S.told store.old) file.now result }
+    ensures absent { IfSome (S.told store.old) (λ files.
+        files file.now ≡ None → result ≡ Err (status.StoreFault file.now)) }
+    ensures calls { S.calls store.new
+        ≡ S.calls store.old ++ read_of file.now (is_fault result) ∷ [] }
     ensures last { IfFault result (λ name. S.last store.new ≡ failed_read name) }
     ensures rose { IfFault result (λ _. Rose (S.faults store.old) (S.faults store.new)) }
+    ensures good { is_fault result ≡ false → S.faults store.new ≡ S.faults store.old }
     ensures files { AllStay (S.told store.old) (S.told store.new) }
     ensures count { S.faults store.old ≤ S.faults store.new }
 {

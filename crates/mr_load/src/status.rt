@@ -28,7 +28,7 @@ pub enum Status {
     Memory,
     /// The lines of the daemons are more than `limit control` allows. Nothing was written.
     ControlFull,
-    /// A line of the scenario that is not built yet, by its form or by what its call comes to. Nothing was written.
+    /// The first line of the scenario whose form is not built yet. Nothing was written.
     NotBuilt {
         line: u32,
     },
