@@ -14,7 +14,7 @@ use std::{fs, io};
 
 /// What is built of scenarios.
 const BUILT: &str =
-    "'init', 'addvif' and 'addmfc' of plain and admin daemons, each to be answered ok, and 'pkt' of lanes, each to be plainly forwarded";
+    "all lines of plain and admin daemons, and 'pkt' of lanes";
 
 /// A line of a file, counted from 1.
 fn line_at(bytes: &[u8], line: u32) -> &[u8] {

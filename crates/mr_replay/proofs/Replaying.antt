@@ -1,20 +1,30 @@
 -- What the file that is asked for comes to.
-use Rattle.std.proofs.Common.{◌≡◌, ℕ, Bool, true, false, Option, Some, None, Result, Ok, Err, List, sym, ap, ◌∙◌}
+use Rattle.std.proofs.Common.{◌≡◌, ◌≤◌, ℕ, Bool, true, false, Option, Some, None, Result, Ok, Err, List, refl, sym, ap, ◌∙◌, arith, subst}
+use Rattle.std.proofs.lemmas.Bool.Decides.{nat_tests}
 use Rattle.std.specs.Prelude.{nat_le}
 use Rattle.mr_base.specs.Outside.{Files}
 use Rattle.mr_load.specs.Refusals.{if_there, accepted, if_built, scenario_of, loaded}
 use Rattle.mr_load.specs.Told.{IsTold}
+use Rattle.mr_kernel.specs.Values.{KernelValue}
+use Rattle.mr_lines.specs.declared.skip.Skip.{Skip}
+use Rattle.mr_load.specs.Loading.{run_limits}
+use Rattle.mr_load.specs.Loads.{IsLoaded}
+use Rattle.mr_load.specs.Made.{Made}
+use Rattle.mr_load.specs.declared.loading.Loaded.{Loaded}
+use Rattle.mr_model.specs.Ending.{ending}
+use Rattle.mr_model.specs.Legal.{IsLegal}
+use Rattle.mr_model.specs.declared.limits.Limits.{Limits}
+use Rattle.mr_replay.specs.Text.{tail_of}
+use Rattle.mr_scenario.specs.declared.scenario.Named.{Named}
+use Rattle.mr_text.specs.Text.{text}
 use Rattle.mr_load.specs.Unbuilt.{first_unbuilt}
 use Rattle.mr_load.specs.declared.status.Status.{Status}
-use Rattle.mr_model.specs.declared.entry.Entry.{Entry}
 use Rattle.mr_replay.specs.Endings.{file_asked, RunsTo, Replays, PlaysText}
-use Rattle.mr_replay.specs.Outcomes.{controls_due, if_room, ran, outcome_of}
-use Rattle.mr_replay.specs.Played.{played}
+use Rattle.mr_replay.specs.Outcomes.{controls_due}
 use Rattle.mr_scenario.specs.Spelled.{spelled}
 use Rattle.mr_scenario.specs.declared.scenario.Scenario.{Scenario}
 use Rattle.mr_scenario.specs.declared.stop.ScenarioError.{ScenarioError}
 use Rattle.mr_scenario.specs.declared.stop.ScenarioError.TheVariants as error
-use Rattle.mr_words.specs.Binds.{◌>>=◌}
 use Rattle.mr_words.proofs.Binds.{bind_ok}
 
 there_ok : (file : List ℕ) (o : Option (List ℕ)) (bytes : List ℕ) → if_there file o ≡ Ok bytes → o ≡ Some bytes
@@ -41,13 +51,7 @@ loaded_spelled files file s e =
     let b = bind_ok (if_there file (files file)) scenario_of s e in
     (b.0, there_ok file (files file) b.0 b.1, scenario_spelled b.0 s b.2)
 
--- what a loaded scenario comes to, where there is room
-comes_of : (files : Files) (file : List ℕ) (s : Scenario) (r : Result (List Entry) ℕ) → loaded files file ≡ Ok s → nat_le (controls_due s) s.limits.controls ≡ true → played files s ≡ r
-    → outcome_of files file ≡ ran r
-comes_of files file s r e room p =
-    ap (λ (x : Result Scenario Status). x >>= λ t. if_room t (ran (played files t))) e ∙ rw room (ap ran p)
-
-runs_to : (files : Files) (file written : List ℕ) (s : Scenario) → loaded files file ≡ Ok s → nat_le (controls_due s) s.limits.controls ≡ true → PlaysText files s written → RunsTo files file written
+runs_to : (files : Files) (file written : List ℕ) (s : Scenario) → loaded files file ≡ Ok s → controls_due s ≤ s.limits.controls → PlaysText files s written → RunsTo files file written
 runs_to files file written s e room p =
     let spelt = loaded_spelled files file s e in
     record {
@@ -56,19 +60,19 @@ runs_to files file written s e room p =
       history = p.history;
       stored = spelt.1;
       spells = spelt.2;
-      built = comes_of files file s (Ok p.history) e room p.played_is;
+      built = e;
+      room = room;
       legal = p.legal;
       made = p.made;
       text_is = p.text_is;
     }
 
 -- a test that let pass
-pub roomy : (b r : Bool) → b ≡ true → b ≡ r → r ≡ true
-roomy true r e same = sym same
-roomy false r e same = absurd (cc)
+pub roomy : (b : Bool) (due most : ℕ) → b ≡ true → b ≡ nat_le due most → due ≤ most
+roomy b due most e same = grind (arith, nat_tests, e, same)
 
 pub replays : (words : List (List ℕ)) (told : Option Files) (files : Files) (file written : List ℕ) (s : Scenario) (IsTaken : List ℕ → Type 0)
-    → file_asked words ≡ Some file → IsTold told files → loaded files file ≡ Ok s → nat_le (controls_due s) s.limits.controls ≡ true → PlaysText files s written → IsTaken written
+    → file_asked words ≡ Some file → IsTold told files → loaded files file ≡ Ok s → controls_due s ≤ s.limits.controls → PlaysText files s written → IsTaken written
     → Replays words told IsTaken
 replays words told files file written s IsTaken asked told_is e room p taken = record {
   files = files;
@@ -78,3 +82,15 @@ replays words told files file written s IsTaken asked told_is e room p taken = r
   run = runs_to files file written s e room p;
   taken = taken;
 }
+
+-- the text of the machine's history is that of what was loaded
+pub plays : (files : Files) (l : Loaded) (k : KernelValue) (written : List ℕ) (skips : List Skip) (devices : List Named) → IsLoaded files l → k.limits ≡ l.limits → IsLegal k.limits k.history → Made files l.scenario k.history
+    → skips ≡ l.skips → devices ≡ l.scenario.devices → written ≡ text skips k.history (tail_of devices (ending k.limits k.history)) → PlaysText files l.scenario written
+plays files l k written skips devices i limits legal made same_skips same_devices is =
+    let run : k.limits ≡ run_limits files l.scenario = limits ∙ i.limits in
+    record {
+      history = k.history;
+      legal = subst (λ (x : Limits). IsLegal x k.history) run legal;
+      made = made;
+      text_is = is ∙ rw (same_skips, i.skips, same_devices, run) refl;
+    }

@@ -1,6 +1,5 @@
 -- How a run may end, and what each status says.
-use Rattle.std.specs.Prelude.{◌≡◌, ℕ, ◌&&◌, Bool, true, false, not, nat_lt, nat_le, if◌then◌else◌, Option, Some, None, Result, Ok, Err, IsOk, Contains, List, [], ◌∷◌, length, bytes_eq, codes, take}
-use Rattle.std.specs.Global.{Vec}
+use Rattle.std.specs.Prelude.{◌≡◌, ◌≤◌, ℕ, ◌&&◌, Bool, true, false, not, nat_lt, nat_le, if◌then◌else◌, Option, Some, None, Result, Ok, Err, IsOk, Contains, List, [], ◌∷◌, length, bytes_eq, codes, take}
 use Rattle.mr_base.specs.Outside.{Files}
 use Rattle.mr_model.specs.declared.entry.Entry.{Entry}
 use Rattle.mr_model.specs.Legal.{IsLegal}
@@ -9,10 +8,8 @@ use Rattle.mr_load.specs.declared.status.Status.{Status}
 use Rattle.mr_load.specs.declared.status.Status.TheVariants as status
 use Rattle.mr_scenario.specs.declared.stop.Kind.{Kind}
 use Rattle.mr_scenario.specs.Spelled.{spelled}
-use Rattle.mr_replay.specs.Outcomes.{outcome_of}
-use Rattle.mr_replay.specs.Played.{played}
-use Rattle.mr_replay.specs.declared.halt.Halt.{Halt}
-use Rattle.mr_replay.specs.declared.halt.Halt.TheVariants as halt
+use Rattle.mr_replay.specs.Outcomes.{controls_due, outcome_of}
+use Rattle.mr_load.specs.Refusals.{loaded}
 use Rattle.mr_load.specs.Loading.{run_limits}
 use Rattle.mr_load.specs.Made.{Made}
 use Rattle.mr_load.specs.Refusals.{files_read}
@@ -28,15 +25,16 @@ abbrev pub file_asked : List (List ℕ) → Option (List ℕ)
 file_asked (command ∷ file ∷ []) = if bytes_eq command (codes "replay") && is_file_word file then Some file else None
 file_asked _ = None
 
--- The bytes of the file spell a scenario, the text is that of a legal history of it, and the history has what the scenario
--- asks.
+-- The bytes of the file spell a scenario whose form is built and whose daemons' lines have room. The text is that of a legal
+-- history of it, and the history has what the scenario asks.
 pub record RunsTo (files : Files) (file text : List ℕ) : Type 0 where
   pub bytes : List ℕ
   pub scenario : Scenario
   pub history : List Entry
   pub stored : files file ≡ Some bytes
   pub spells : spelled bytes ≡ Ok scenario
-  pub built : outcome_of files file ≡ Ok history
+  pub built : loaded files file ≡ Ok scenario
+  pub room : controls_due scenario ≤ scenario.limits.controls
   pub legal : IsLegal (run_limits files scenario) history
   pub made : Made files scenario history
   pub text_is : text ≡ history_text files scenario history
@@ -75,6 +73,11 @@ is_silent status.Good = false
 is_silent status.SinkFault = false
 is_silent _ = true
 
+-- whether a file could not be read
+abbrev pub is_store_fault : Status → Bool
+is_store_fault (status.StoreFault name) = true
+is_store_fault _ = false
+
 -- a fact for each status
 abbrev pub IfScenario : Status → (ℕ → Kind → List ℕ → Type 0) → Type 0
 IfScenario (status.Scenario line k text) P = P line k text
@@ -88,22 +91,16 @@ abbrev pub IfStoreFault : Status → (List ℕ → Type 0) → Type 0
 IfStoreFault (status.StoreFault file) P = P file
 IfStoreFault _ P = Unit {0}
 
--- A loaded scenario comes to the text of a legal history of it, or stops at this line; memory may run out.
+-- A scenario comes to the text of a legal history of it, which has what the scenario asks.
 pub record PlaysText (files : Files) (scenario : Scenario) (written : List ℕ) : Type 0 where
   pub history : List Entry
-  pub played_is : played files scenario ≡ Ok history
   pub legal : IsLegal (run_limits files scenario) history
   pub made : Made files scenario history
   pub text_is : written ≡ history_text files scenario history
 
-abbrev pub PlaysTo : Files → Scenario → Result (Vec ℕ) Halt → Type 0
-PlaysTo files scenario (Ok v) = PlaysText files scenario v.items
-PlaysTo files scenario (Err (halt.NotBuilt line)) = played files scenario ≡ Err line
-PlaysTo files scenario (Err halt.Memory) = Unit {0}
-
--- Where no call of the outside failed, a run ends by what its file comes to: Good where that is a history, else by the status.
--- Memory may run out.
-abbrev pub EndsBy : Status → Result (List Entry) Status → Type 0
+-- Where no call of the outside failed, a run ends by what its file comes to: Good where that is a scenario that is run, else by
+-- the status. Memory may run out.
+abbrev pub EndsBy : Status → Result Scenario Status → Type 0
 EndsBy status.Good outcome = IsOk outcome
 EndsBy status.Memory outcome = Unit {0}
 EndsBy status.Usage outcome = ⊥

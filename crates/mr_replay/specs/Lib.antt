@@ -1,8 +1,5 @@
-pub mod Played
 pub mod Outcomes
-pub mod Built
 pub mod Text
 pub mod Endings
-pub mod Laws
-pub mod Journals
-pub mod Machines
+pub mod Running
+pub mod Lanes

@@ -1,24 +1,20 @@
 //! The top call.
 
-ghost use Rattle.std.specs.Prelude.{ℕ, List, [], ◌≡◌, ◌⊎◌, ◌↔◌, ◌≤◌, length, map, string_bytes, MatchOption, IfOk, IfSome, None, Some, true, Ok};
+ghost use Rattle.std.specs.Prelude.{ℕ, List, [], ◌∷◌, ◌++◌, ◌≡◌, ◌⊎◌, ◌↔◌, ◌≤◌, length, map, string_bytes, MatchOption, IfOk, IfSome, None, Some, true};
 ghost use Rattle.mr_base.specs.Outside.{Files, Rose, AllStay, Takes, TakesPrefix};
-ghost use Rattle.mr_replay.specs.Endings.{is_file_word, file_asked, Replays, ComesTo, IsToRead, PlaysTo, is_silent, IfScenario, IfNotBuilt, IfStoreFault, EndsBy};
-ghost use Rattle.mr_load.specs.Faults.{failed_read};
+ghost use Rattle.mr_replay.specs.Endings.{is_file_word, file_asked, Replays, ComesTo, IsToRead, PlaysText, is_silent, IfScenario, IfNotBuilt, IfStoreFault, is_store_fault, EndsBy};
+ghost use Rattle.mr_load.specs.Faults.{failed_read, read_of};
 ghost use Rattle.mr_load.specs.Loads.{IsLoaded};
-ghost use Rattle.mr_load.specs.Loading.{run_limits, skips_of};
-ghost use Rattle.mr_replay.specs.Outcomes.{controls_due, outcome_of};
-ghost use Rattle.mr_scenario.specs.Fits.{Fits};
+ghost use Rattle.mr_replay.specs.Outcomes.{outcome_of};
+ghost use Rattle.mr_replay.specs.Running.{CanRun};
 ghost use Rattle.mr_load.specs.declared.status.Status.TheVariants as status;
 
-use crate::halt::Halt;
-use crate::playing::play;
 use crate::room::has_room;
+use crate::running::run_loaded;
 use crate::writing::write_run;
-use mr_base::{Clock, Door, Gate, Sink, Store};
+use mr_base::{Clock, Door, Gate, Memory, Sink, Store};
 use mr_lines::Skip;
 use mr_load::{Loaded, Status, devices_of, load};
-use mr_model::Limits;
-use mr_scenario::Scenario;
 use std::alloc::Global;
 use std::sync::Wait;
 use std::thread::Threads;
@@ -49,27 +45,6 @@ fn file_asked(words: &[String]) -> Option<&str>
     }
 }
 
-/// The text of the history to which a scenario comes.
-fn text_of(
-    alloc: Global,
-    scenario: &Scenario,
-    limits: &Limits,
-    skips: &[Skip],
-) -> Result<Vec<u8>, Halt>
-    requires fits { Fits scenario.now }
-    requires room { controls_due scenario.now ≤ scenario.now.limits.controls }
-    requires devices { limits.now.devices ≡ scenario.now.limits.devices }
-    ensures { (files : Files) →
-        limits.now ≡ run_limits files scenario.now →
-        skips.now ≡ skips_of files scenario.now →
-        PlaysTo files scenario.now result }
-{
-    let run = play(alloc, scenario, limits)?;
-    let devices = devices_of(scenario);
-    let text = write_run(alloc, skips, devices, &run)?;
-    Ok(text)
-}
-
 /// The skips of what was loaded.
 fn skips_of(loaded: &Loaded) -> &[Skip]
     ensures { result.now ≡ loaded.now.skips }
@@ -78,13 +53,16 @@ fn skips_of(loaded: &Loaded) -> &[Skip]
 }
 
 /// The text of the history to which a loaded scenario comes.
-fn history_of(alloc: Global, loaded: &Loaded) -> Result<Vec<u8>, Halt>
-    requires fits { Fits loaded.now.scenario }
-    requires room { controls_due loaded.now.scenario ≤ loaded.now.scenario.limits.controls }
-    requires devices { loaded.now.limits.devices ≡ loaded.now.scenario.limits.devices }
-    ensures { (files : Files) → IsLoaded files loaded.now → PlaysTo files loaded.now.scenario result }
+fn history_of(alloc: Global, loaded: &Loaded) -> Result<Vec<u8>, Memory>
+    requires { CanRun loaded.now }
+    ensures { IfOk result (λ v. (files : Files) →
+        IsLoaded files loaded.now → PlaysText files loaded.now.scenario v.items) }
 {
-    text_of(alloc, &loaded.scenario, &loaded.limits, skips_of(loaded))
+    let kernel = run_loaded(alloc, loaded)?;
+    kernel.facts();
+    let skips = skips_of(loaded);
+    let text = write_run(alloc, skips, devices_of(&loaded.scenario), &kernel)?;
+    Ok(text)
 }
 
 /// Hands the history's text to the sink.
@@ -105,8 +83,7 @@ fn put<K: Sink>(out: &mut K, text: &[u8]) -> Status
 ///
 /// The statuses in their order: `Usage`; those of loading, which are `StoreFault`, where the scenario cannot be read,
 /// `Scenario` with its first bad line, and `NotBuilt` with the first line whose form is not built yet; `ControlFull`, where
-/// the daemons' lines are more than the scenario's limit; `NotBuilt` with the first call or packet whose outcome is not
-/// built; `SinkFault`. `Memory` may come wherever memory is taken. With any but `Good` and `SinkFault` nothing is written.
+/// the daemons' lines are more than the scenario's limit; `SinkFault`. `Memory` may come wherever memory is taken. With any but `Good` and `SinkFault` nothing is written.
 ///
 /// The runtime, the door, the clock and the gate are not asked yet.
 pub fn run<R: Wait + Threads + Sync, S: Store, K: Sink, D: Door, C: Clock, G: Gate + Sync>(
@@ -126,7 +103,7 @@ pub fn run<R: Wait + Threads + Sync, S: Store, K: Sink, D: Door, C: Clock, G: Ga
     // The first bad line of the file, what is wrong with it, and how it begins.
     ensures scenario { IfScenario result (λ line kind text.
         ComesTo (map string_bytes words.now) (S.told store.old) (status.Scenario line kind text)) }
-    // The first line of the file that is not built, by its form or else by its call or packet.
+    // The first line of the file whose form is not built.
     ensures not_built { IfNotBuilt result (λ line. ComesTo (map string_bytes words.now) (S.told store.old) (status.NotBuilt line)) }
     // The lines of the daemons are more than the limit on control entries.
     ensures control_full { result ≡ status.ControlFull → ComesTo (map string_bytes words.now) (S.told store.old) status.ControlFull }
@@ -147,6 +124,14 @@ pub fn run<R: Wait + Threads + Sync, S: Store, K: Sink, D: Door, C: Clock, G: Ga
     // With the other statuses nothing is written, and no file ever changes.
     ensures silent { is_silent result ≡ true → out.new ≡ out.old }
     ensures files { AllStay (S.told store.old) (S.told store.new) }
+    // The file asked for is read once, and no other one; the read failed exactly with StoreFault.
+    ensures reads { (file : List ℕ) → file_asked (map string_bytes words.now) ≡ Some file →
+        S.calls store.new
+        ≡ S.calls store.old ++ read_of file (is_store_fault result) ∷ [] }
+    // With other words the store is not asked; the door and the clock never are.
+    ensures unasked { result ≡ status.Usage → store.new ≡ store.old }
+    ensures door { _door.new ≡ _door.old }
+    ensures clock { _clock.new ≡ _clock.old }
 {
     let Some(file) = file_asked(words) else {
         return Status::Usage;
@@ -160,7 +145,6 @@ pub fn run<R: Wait + Threads + Sync, S: Store, K: Sink, D: Door, C: Clock, G: Ga
     }
     match history_of(alloc, &loaded) {
         Ok(text) => put(out, text.as_slice()),
-        Err(Halt::NotBuilt(line)) => Status::NotBuilt { line },
-        Err(Halt::Memory) => Status::Memory,
+        Err(Memory) => Status::Memory,
     }
 }

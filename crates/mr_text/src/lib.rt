@@ -21,4 +21,4 @@ mod writing;
 pub use history_text::{HistoryText, TextError};
 pub use laws::{lines_begin, none_begins, one_text, read_is_text, text_is_read};
 pub use reading::read_history;
-pub use writing::{write_entry, write_history, write_skips, write_tail};
+pub use writing::{write_call_lines, write_entry, write_history, write_skips, write_tail};

@@ -49,7 +49,7 @@ fn write_records(
 }
 
 /// The lines of a call.
-fn write_call_lines(
+pub fn write_call_lines(
     out: &mut Vec<u8>,
     number: u64,
     daemon: DaemonNo,

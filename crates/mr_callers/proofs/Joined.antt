@@ -1,0 +1,79 @@
+-- What the callers did in a phase joins to a history that has what its scenario asks.
+use Rattle.std.proofs.Common.{◌≡◌, ◌∙◌, ℕ, ◌+◌, ◌≤◌, inl, inr, List, [], ◌∷◌, ◌++◌, length, refl, sym, ap, arith, append_assoc, append-nil, subst}
+use Rattle.std.proofs.lemmas.Grind.{flat_map-append}
+use Rattle.std.proofs.lemmas.List.{append_cancel_left}
+use Rattle.mr_base.specs.Outside.{Files}
+use Rattle.mr_callers.specs.Authors.{own}
+use Rattle.mr_callers.specs.Deeds.{AllAsk, AllSend}
+use Rattle.mr_callers.specs.Joining.{Joins, MadeSoFar, PhasesJoin, Shares}
+use Rattle.mr_load.specs.Loading.{items_in, run_limits}
+use Rattle.mr_load.specs.Made.{MadeFrom, PartOf, Sent, asked, asked_in, sent, sent_in, to_ask, to_send}
+use Rattle.mr_model.specs.declared.entry.Entry.{Entry}
+use Rattle.mr_model.specs.declared.entry.Entry.TheVariants.{EndPhase}
+use Rattle.mr_model.specs.Legal.{IsLegal}
+use Rattle.mr_scenario.specs.declared.scenario.Item.{Item}
+use Rattle.mr_scenario.specs.declared.scenario.Phase.{Phase}
+use Rattle.mr_scenario.specs.declared.scenario.Scenario.{Scenario}
+use Rattle.mr_scenario.specs.declared.scenario.Script.{Script}
+use Rattle.mr_scenario.specs.Fits.{Fits}
+use Rattle.mr_callers.proofs.Called.{part_called, run_callers}
+use Rattle.mr_callers.proofs.Doing.{both_behind, own_append}
+use Rattle.mr_callers.proofs.Owning.{asked_none, flat_own, no_ends, sent_none}
+
+-- one phase more, behind items of former ones
+made_push : (files : Files) (s : Scenario) (before : List Item) (ps : List Phase) (p : Phase) (h part : List Entry) → MadeFrom files s before ps h → PartOf files s (before ++ items_in ps) p part
+    → MadeFrom files s before (ps ++ p ∷ []) (h ++ part ++ EndPhase ∷ [])
+made_push files s before [] p h part made is_part =
+    let now : PartOf files s before p part = subst (λ (x : List Item). PartOf files s x p part) (append-nil before) is_part in
+    (part, [], rw made refl, now, refl)
+made_push files s before (q ∷ ps) p h part (first, rest, splits, its, made) is_part =
+    let later : PartOf files s ((before ++ q.items) ++ items_in ps) p part = subst (λ (x : List Item). PartOf files s x p part) (sym (append_assoc before q.items (items_in ps))) is_part in (
+      first,
+      rest ++ part ++ EndPhase ∷ [],
+      rw splits (ap (λ (x : List Entry). x ++ EndPhase ∷ []) (append_assoc first (EndPhase ∷ rest) part) ∙ append_assoc first (EndPhase ∷ (rest ++ part)) (EndPhase ∷ [])),
+      its,
+      made_push files s (before ++ q.items) ps p rest part made later,
+    )
+
+-- what a caller did is its own entries behind the former history
+did_is : (h part : List Entry) (did : ℕ → List Entry) → Joins h part did → (n : ℕ) → own n part ≡ did n
+did_is h part did joins n = append_cancel_left (own n h) (own n part) (did n) (sym (own_append n h part) ∙ joins n)
+
+pub sent_own : (lane : ℕ) (h : List Entry) → sent lane (own lane h) ≡ sent lane h
+sent_own lane h = flat_own (sent_in lane) lane (sent_none lane) h
+
+pub asked_own : (d : ℕ) (h : List Entry) → asked d (own (16 + d) h) ≡ asked d h
+asked_own d h = flat_own (asked_in d) (16 + d) (asked_none d) h
+
+pub joined : PhasesJoin
+joined files s ps p h part did fits legal made joins shares =
+    made_push files s [] ps p h part made (record {
+      no_end = no_ends part (did_is h part did joins 0 ∙ shares.no_end);
+      callers = part_called (run_limits files s) s [] h part (run_callers files s fits) legal;
+      lanes = λ lane least most. sym (sent_own lane part) ∙ ap (sent lane) (did_is h part did joins lane) ∙ shares.lanes lane least most;
+      daemons = λ d least most. sym (asked_own d part) ∙ ap (asked d) (did_is h part did joins (16 + d)) ∙ shares.daemons d least most;
+    })
+
+-- the daemons of a scenario ask, and then its lanes send
+pub in_turn : (files : Files) (s : Scenario) (ps : List Phase) (p : Phase) (h m g : List Entry) → Fits s → IsLegal (run_limits files s) g → MadeSoFar files s ps h
+    → AllAsk (length s.daemons) (λ d. to_ask d p) h m → AllSend s.lanes (λ lane. to_send files lane (items_in ps) p) m g
+    → MadeSoFar files s (ps ++ p ∷ []) (g ++ EndPhase ∷ [])
+in_turn files s ps p h m g fits legal made x y =
+    let part : List Entry = x.part ++ y.part in
+    let behind : g ≡ h ++ part = both_behind h x.part y.part m g x.behind y.behind in
+    let lane_sends : (lane : ℕ) → 1 ≤ lane → lane ≤ s.lanes → sent lane (own lane part) ≡ to_send files lane (items_in ps) p = λ lane least most.
+    sent_own lane part ∙ flat_map-append (sent_in lane) x.part y.part
+    ∙ ap (λ (xs : List Sent). xs ++ sent lane y.part) (sym (sent_own lane x.part) ∙ ap (sent lane) (x.others lane (inl (omega (arith, most, fits.most_lanes)))))
+    ∙ y.each lane least most in
+    let daemon_asks : (d : ℕ) → 1 ≤ d → d ≤ length s.daemons → asked d (own (16 + d) part) ≡ to_ask d p = λ d least most.
+    asked_own d part ∙ flat_map-append (asked_in d) x.part y.part
+    ∙ ap (λ (xs : List Script). asked d x.part ++ xs) (sym (asked_own d y.part) ∙ ap (asked d) (y.others (16 + d) (inr (omega (arith, least, fits.most_lanes)))))
+    ∙ append-nil (asked d x.part) ∙ x.each d least most in
+    let all : MadeSoFar files s (ps ++ p ∷ []) (h ++ part ++ EndPhase ∷ []) =
+    joined files s ps p h part (λ n. own n part) fits (subst (λ (z : List Entry). IsLegal (run_limits files s) z) behind legal) made (λ n. own_append n h part)
+    (record {
+      no_end = own_append 0 x.part y.part ∙ rw (x.others 0 (inl (omega arith))) (y.others 0 (inl (omega arith)));
+      lanes = lane_sends;
+      daemons = daemon_asks;
+    }) in
+    subst (λ (z : List Entry). MadeSoFar files s (ps ++ p ∷ []) z) (sym (ap (λ (z : List Entry). z ++ EndPhase ∷ []) behind)) all

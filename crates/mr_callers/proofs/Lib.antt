@@ -1,0 +1,4 @@
+pub mod Owning
+pub mod Doing
+pub mod Called
+pub mod Joined

@@ -1,0 +1,3 @@
+pub mod Authors
+pub mod Deeds
+pub mod Joining
