@@ -8,3 +8,4 @@ pub mod Gathered
 pub mod AllBytes
 pub mod EveryItem
 pub mod Loads
+pub mod LawLimits

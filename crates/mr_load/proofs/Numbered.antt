@@ -77,7 +77,7 @@ few : {A : Type 0} (b : Bool) (x : A) → length (if b then x ∷ [] else []) �
 few true x = omega arith
 few false x = omega arith
 
-given_most : (files : Files) (n dev : ℕ) (g : Given) → length (packet_of files n dev g) ≤ 1
+pub given_most : (files : Files) (n dev : ℕ) (g : Given) → length (packet_of files n dev g) ≤ 1
 given_most files n dev (Trace file) = omega arith
 given_most files n dev (Bytes bs) = few (is_none (cause_of bs)) _
 

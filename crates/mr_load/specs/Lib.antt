@@ -10,5 +10,6 @@ pub mod Refusals
 pub mod Passing
 pub mod Gathering
 pub mod Loads
+pub mod RunLimits
 pub mod Statuses
 pub mod Laws

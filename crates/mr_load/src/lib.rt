@@ -12,7 +12,7 @@ mod status;
 mod unbuilt;
 
 pub use lane::LanePackets;
-pub use laws::{every_item, lanes_by_phases};
+pub use laws::{every_item, lanes_by_phases, limits_within};
 pub use loading::{Loaded, load};
 pub use parts::{devices_of, lanes_of, lines_of, phases_of};
 pub use status::Status;
