@@ -4,6 +4,7 @@ use Rattle.mr_base.specs.Outside.{Files}
 use Rattle.mr_base.specs.WorkedHeads as heads
 use Rattle.mr_base.specs.declared.errno.Errno.TheVariants.{Access}
 use Rattle.mr_lines.specs.declared.skip.Skip.{Skip}
+use Rattle.mr_load.specs.Dues.{Due, LaneValue}
 use Rattle.mr_model.specs.declared.entry.Entry.{Entry}
 use Rattle.mr_model.specs.declared.entry.Entry.TheVariants.{EndPhase, Recv, Settle, Slow, Tick}
 use Rattle.mr_model.specs.declared.flow.Flow.{Flow}
@@ -63,6 +64,16 @@ scenario = record {
 -- the refused item: the first of lane 2, which is too short
 abbrev pub skips : List Skip
 skips = record { lane = lane 2; index = 1; cause = 1 } ∷ []
+
+-- a packet that came on device 1, with its phase and its number
+abbrev pub due : ℕ → ℕ → Due
+due k n = record { phase = k; index = n; dev = 1; bytes = heads.packet }
+
+-- Each lane's packets. Those of lane 2 are its items 2 and 3.
+abbrev pub lanes : List LaneValue
+lanes =
+    record { lane = lane 1; packets = due 0 1 ∷ due 1 2 ∷ [] }
+    ∷ record { lane = lane 2; packets = due 0 2 ∷ due 1 3 ∷ [] } ∷ []
 
 abbrev pub flow : Flow
 flow = packet 1 source group 2

@@ -1,11 +1,15 @@
 //! What a history of a scenario has to have.
 
-ghost use Rattle.std.specs.Prelude.{◌≡◌};
+ghost use Rattle.std.specs.Prelude.{◌≡◌, ◌∷◌, [], map};
+ghost use Rattle.mr_load.specs.Callers.{one_to};
+ghost use Rattle.mr_load.specs.Dues.{lane_of};
 ghost use Rattle.mr_load.specs.Loading.{run_limits, skips_of};
-ghost use Rattle.mr_load.specs.Made.{Made};
+ghost use Rattle.mr_load.specs.Made.{Made, as_asked};
 ghost use Rattle.mr_model.specs.Legal.{IsLegal};
+ghost use Rattle.mr_model.specs.declared.request.Request.TheVariants.{Init, Unknown, BadLength};
 ghost use Rattle.mr_rows.specs.MadeMisses as misses;
 ghost use Rattle.mr_rows.specs.SideBySide as beside;
+ghost use Rattle.mr_scenario.specs.declared.scenario.Script.TheVariants as script;
 
 /// Two lanes and two daemons stand beside each other in two phases. The history is legal and has what the scenario asks:
 /// a daemon asks for another table, which is an unknown option, a lane's packets are counted, and an item that is no
@@ -29,4 +33,17 @@ pub fn made_near_misses()
     ensures lines_exchanged { Made beside.files beside.scenario misses.lines_exchanged → ⊥ }
     ensures third_lane { Made beside.files beside.scenario misses.third_lane → ⊥ }
     ensures third_daemon { Made beside.files beside.scenario misses.third_daemon → ⊥ }
+{}
+
+/// Each lane of that scenario has its packets in one list, with their phases and the numbers of their items.
+pub fn lanes_side_by_side()
+    ensures { map (lane_of beside.files beside.scenario) (one_to 2) ≡ beside.lanes }
+{}
+
+/// A record makes the call that it spells, by its option and its length; one that asks for another table asks for an
+/// option that cannot be set.
+pub fn records_as_asked()
+    ensures init { as_asked (script.Raw 200 (1 ∷ 0 ∷ 0 ∷ 0 ∷ [])) ≡ script.Ask Init }
+    ensures short { as_asked (script.Raw 200 (1 ∷ [])) ≡ script.Ask (BadLength 200) }
+    ensures table { as_asked (script.Raw 209 (1 ∷ 0 ∷ 0 ∷ 0 ∷ [])) ≡ script.Ask (Unknown 209) }
 {}
