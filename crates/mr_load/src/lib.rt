@@ -1,5 +1,6 @@
-//! A scenario is loaded: read from a store, and its items told apart into packets and skips. And what a history of a
-//! scenario has to have: each lane's packets and each daemon's calls, once and in their order.
+//! A scenario is loaded: read from a store, and its items told apart into the packets and the skips
+//! of each lane. And what a history of a scenario has to have: each lane's packets and each daemon's
+//! calls, once and in their order.
 #![tactic(auto)]
 
 mod gathering;

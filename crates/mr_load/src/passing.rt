@@ -5,7 +5,8 @@ ghost use Rattle.std.specs.List.{AllByRecursion};
 ghost use Rattle.mr_base.specs.Outside.{Files};
 ghost use Rattle.mr_load.specs.Dues.{IsBefore};
 ghost use Rattle.mr_load.specs.Loading.{cause_number, items_in};
-ghost use Rattle.mr_load.specs.Passing.{EachFrom, BothFrom, IsFresh, IsOpen, Passes, PassesItem, HasPassed, IsOfLanes};
+ghost use Rattle.mr_load.specs.Passing.{EachFrom, BothFrom, IsFresh, IsOpen, IsOfLanes};
+ghost use Rattle.mr_load.specs.Passing.{Passes, PassesItem, HasPassed};
 ghost use Rattle.mr_scenario.specs.declared.scenario.Given.TheVariants.{Bytes};
 
 use crate::lane::LanePackets;
@@ -112,7 +113,8 @@ fn pass_items(lanes: &mut Vec<Passed>, phase: u32, items: &[Item]) -> Result<(),
 /// The items of all phases.
 fn pass_phases(lanes: &mut Vec<Passed>, phases: &[Phase]) -> Result<(), AllocError>
     requires fresh { EachFrom IsFresh 1 lanes.old.items }
-    requires lanes { AllByRecursion (λ p. AllByRecursion (IsOfLanes (length lanes.old.items)) p.items) phases.now }
+    requires lanes { AllByRecursion (λ p.
+        AllByRecursion (IsOfLanes (length lanes.old.items)) p.items) phases.now }
     requires items { length (items_in phases.now) ≤ 1048576 }
     requires phases { length phases.now ≤ 1000 }
     ensures passed { OnOk result ((files : Files) →
