@@ -1,0 +1,13 @@
+//! Runs of whole scenarios: each text beside the history or the status that it gives.
+#![tactic(auto)]
+
+#[cfg(test)]
+mod forwarded;
+#[cfg(test)]
+mod tests;
+#[cfg(test)]
+mod tests_lanes;
+#[cfg(test)]
+mod tests_refused;
+#[cfg(test)]
+mod waiting;
