@@ -13,8 +13,7 @@ use std::rt::Files;
 use std::{fs, io};
 
 /// What is built of scenarios.
-const BUILT: &str =
-    "all lines of plain and admin daemons, and 'pkt' of lanes";
+const BUILT: &str = "all lines of plain and admin daemons, and 'pkt' of lanes";
 
 /// A line of a file, counted from 1.
 fn line_at(bytes: &[u8], line: u32) -> &[u8] {
