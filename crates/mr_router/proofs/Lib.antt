@@ -1,0 +1,6 @@
+pub mod Owning
+pub mod Places
+pub mod Holding
+pub mod Hearing
+pub mod Walking
+pub mod Deeding

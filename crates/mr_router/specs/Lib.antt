@@ -1,0 +1,7 @@
+pub mod Authors
+pub mod Histories
+pub mod Callers
+pub mod Deeds
+pub mod Seats
+pub mod Limiting
+pub mod Rows

@@ -1,0 +1,29 @@
+//! Lanes and daemons that share one multicast machine: each may have a thread of its own, and the
+//! history of all is one legal history.
+//!
+//! The machine lies behind a lock, over a journal that is counted. A lane or a daemon takes the lock
+//! for each entry that it makes. It then finds all that it had seen as a beginning of the history,
+//! and of its own entries just those that it made, in their order.
+#![tactic(auto)]
+
+mod bound;
+mod daemon;
+mod lane;
+mod laws;
+mod loops;
+mod machine;
+mod names;
+mod opened;
+mod router;
+mod seats;
+mod signed;
+#[cfg(test)]
+mod tests;
+
+pub use bound::Bound;
+pub use daemon::Daemon;
+pub use lane::{Handled, Lane};
+pub use laws::{own_ends, own_gathers, own_grows, own_of_nobody, own_tells};
+pub use names::RunName;
+pub use opened::Opened;
+pub use router::{Router, Team};
