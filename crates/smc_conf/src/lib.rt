@@ -15,6 +15,7 @@ mod tests;
 mod worked;
 
 pub use conf::{Conf, Group, Phyint, Prefix, Rule};
+pub use forms::{group_word, source_word};
 pub use reading::read;
 pub use stop::{ConfError, Kind};
 pub use worked::worked_configurations;

@@ -1,0 +1,32 @@
+//! The routing machine after smcroute: rules, groups and learned routes, which requests each
+//! command and each report makes, and which text each command answers.
+#![tactic(auto)]
+
+mod changing;
+mod commands;
+mod input;
+mod interface;
+mod interfaces;
+mod key;
+mod learned;
+mod mistake;
+mod plan;
+mod ranges;
+mod replies;
+mod requests;
+mod rules;
+mod settings;
+mod show;
+mod showing;
+mod smc;
+mod stop;
+mod worked;
+
+pub use input::{Input, Output};
+pub use interface::Interface;
+pub use key::Key;
+pub use learned::Learned;
+pub use mistake::Mistake;
+pub use plan::Plan;
+pub use smc::Smc;
+pub use worked::worked_rows;
