@@ -295,12 +295,8 @@ fn words(rt: HostRuntime) -> Result<(), Fail> {
 #[test]
 fn store_without_the_file(rt: HostRuntime) -> Result<(), Fail> {
     let (status, taken) = replayed(&rt, "replay g", "scenario 1\n")?;
-    assert_eq!(rt; status.number(), 4);
+    assert_eq!(rt; told(&status), (4, 0, 0));
     assert_eq!(rt; taken.len(), 0);
-    let Status::StoreFault { file } = status else {
-        return Err(Fail::from("the name of the file"));
-    };
-    assert_eq!(rt; file.as_str(), "g");
     Ok(())
 }
 

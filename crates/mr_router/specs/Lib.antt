@@ -4,4 +4,3 @@ pub mod Callers
 pub mod Deeds
 pub mod Seats
 pub mod Limiting
-pub mod Rows

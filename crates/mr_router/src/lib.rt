@@ -17,8 +17,6 @@ mod opened;
 mod router;
 mod seats;
 mod signed;
-#[cfg(test)]
-mod tests;
 
 pub use bound::Bound;
 pub use daemon::Daemon;
