@@ -1,10 +1,9 @@
 //! What a status that is not Good means, as one line on standard error.
 
 use crate::form::{form, limit};
-use crate::found::{bad_address, bad_file, bad_number, bad_threshold, text_at, word_at};
 use crate::shown::shown;
-use mr_base::{DEFAULT_CONTROLS, LONGEST_FILE};
-use mr_replay::Status;
+use mr_base::{DEFAULT_CONTROLS, LONGEST_FILE, MOST_ITEMS};
+use mr_replay::{MOST_TRACE_BYTES, Status, TraceCause};
 use mr_scenario::Kind;
 use std::alloc::{AllocError, Global};
 use std::fs::File;
@@ -13,7 +12,7 @@ use std::rt::Files;
 use std::{fs, io};
 
 /// What is built of scenarios.
-const BUILT: &str = "all lines of plain and admin daemons, and 'pkt' of lanes";
+const BUILT: &str = "all lines of lanes, and of plain and admin daemons";
 
 /// A line of a file, counted from 1.
 fn line_at(bytes: &[u8], line: u32) -> &[u8] {
@@ -30,7 +29,7 @@ fn subject(kind: Kind) -> &'static str {
     match kind {
         Kind::Header => "first line",
         Kind::Word => "word or number of words in",
-        Kind::Number => "number",
+        Kind::Number { .. } => "number",
         Kind::Address => "address",
         Kind::Name => "device name",
         Kind::Device => "device",
@@ -43,26 +42,13 @@ fn subject(kind: Kind) -> &'static str {
     }
 }
 
-/// The bad word of a line, or the whole line where no word alone is bad.
-fn found(line: &[u8], kind: Kind) -> &[u8] {
-    match kind {
-        Kind::Header | Kind::Word | Kind::Limit => line,
-        Kind::Number => bad_number(line).0,
-        Kind::Address => bad_address(line),
-        Kind::Name | Kind::Lane | Kind::Daemon => word_at(line, 1),
-        Kind::Device => word_at(line, 3),
-        Kind::Hex => word_at(line, 4),
-        Kind::Threshold => bad_threshold(line),
-        Kind::File => bad_file(line),
-    }
-}
-
-/// What was expected in a line with a mistake of this kind, where that is always the same or goes by
-/// the line's form.
-fn form_of(line: &[u8], kind: Kind) -> &'static str {
-    match kind {
+/// What was expected in place of what was found; in place of a bad line it goes by the line's form.
+fn expected(alloc: Global, found: &[u8], kind: Kind) -> Result<String, AllocError> {
+    let form = match kind {
+        Kind::Number { least, most } => return format!(in alloc; "{least} to {most}"),
+        Kind::Limit => return limit(alloc, found),
+        Kind::Word => form(found),
         Kind::Header => "'scenario 1', in front of all others",
-        Kind::Word => form(text_at(line, 0), text_at(line, 2)),
         Kind::Address => "four numbers of 0 to 255 parted by dots",
         Kind::Name => {
             "1 to 15 letters, digits, '.', '_', '-' or ':', a letter first, not pimreg, each name once"
@@ -75,31 +61,15 @@ fn form_of(line: &[u8], kind: Kind) -> &'static str {
         Kind::File => {
             "a name of 1 to 255 bytes without '/', not '.' or '..', which does not begin with 'out-', at most 8"
         }
-        Kind::Number | Kind::Limit => "",
-    }
+    };
+    String::from_str(alloc, form)
 }
 
-/// The range of the first bad number of a line.
-fn range_of(alloc: Global, line: &[u8]) -> Result<String, AllocError> {
-    let (_, place) = bad_number(line);
-    let (sign, least, most) = (place.sign, place.least, place.most);
-    format!(in alloc; "{sign}{least} to {sign}{most}")
-}
-
-/// What was expected in a line with a mistake of this kind.
-fn expected(alloc: Global, line: &[u8], kind: Kind) -> Result<String, AllocError> {
-    match kind {
-        Kind::Number => range_of(alloc, line),
-        Kind::Limit => limit(alloc, text_at(line, 0)),
-        _ => String::from_str(alloc, form_of(line, kind)),
-    }
-}
-
-/// What is wrong with a line: what was found, and what was expected.
-pub fn mistake(alloc: Global, line: &[u8], kind: Kind) -> Result<String, AllocError> {
+/// What is wrong with a line: what was found, as the reader gave it, and what was expected.
+pub fn mistake(alloc: Global, found: &[u8], kind: Kind) -> Result<String, AllocError> {
     let what = subject(kind);
-    let word = shown(alloc, found(line, kind))?;
-    let wanted = expected(alloc, line, kind)?;
+    let word = shown(alloc, found)?;
+    let wanted = expected(alloc, found, kind)?;
     format!(in alloc; "bad {what} '{word}' ({wanted})")
 }
 
@@ -115,7 +85,7 @@ fn bytes_again<R: Files + AllocGlobal>(rt: &R, file: &str) -> io::Result<Vec<u8>
     Ok(bytes)
 }
 
-/// Shows a bad line of a scenario, of which the reader gave these bytes.
+/// Shows a bad line of a scenario, in which the reader found these bytes.
 fn explain_bad<R: AllocGlobal + Eprint>(
     rt: &R,
     file: &str,
@@ -156,6 +126,37 @@ fn reason<R: Files>(rt: &R, file: &str) -> &'static str {
     }
 }
 
+/// Why a file is refused as a trace, with what was expected.
+fn explain_trace<R: Eprint>(rt: &R, name: &str, cause: TraceCause) -> io::Result<()> {
+    match cause {
+        TraceCause::CutHeader => {
+            eprintln!(rt;
+                "{name}: the file ends in its header (24 bytes of a pcap file were expected)"
+            )
+        }
+        TraceCause::Magic => {
+            eprintln!(rt;
+                "{name}: the first four bytes are no magic number (a classic pcap file was expected, with microseconds or nanoseconds)"
+            )
+        }
+        TraceCause::LinkType => {
+            eprintln!(rt;
+                "{name}: the link type is not known (1, 101, 113, 228 or 276 was expected)"
+            )
+        }
+        TraceCause::CutRecord(number) => {
+            eprintln!(rt;
+                "{name}: record {number} is cut (a head of 16 bytes and as many bytes as it says were expected)"
+            )
+        }
+        TraceCause::TooMany => {
+            eprintln!(rt;
+                "{name}: with this file there is too much (at most {MOST_ITEMS} items of all lanes and {MOST_TRACE_BYTES} bytes of all traces were expected)"
+            )
+        }
+    }
+}
+
 /// The scenario's file among the words.
 fn file_of(words: &[String]) -> &str {
     match words {
@@ -182,6 +183,7 @@ pub fn explain<R: Files + AllocGlobal + Eprint>(
             explain_bad(rt, file, *line, *kind, text.0.as_slice())
         }
         Status::NotBuilt { line } => explain_line(rt, file, *line),
+        Status::Trace { file, cause } => explain_trace(rt, file.as_str(), *cause),
         Status::StoreFault { file } => {
             let name = file.as_str();
             let why = reason(rt, name);

@@ -1,7 +1,24 @@
 //! What a line of a scenario looks like.
 
 use mr_base::{MOST_DAEMONS, MOST_DEVICES, MOST_ITEMS, MOST_PHASES};
+use mr_words::next_word;
 use std::alloc::{AllocError, Global};
+use std::str;
+
+/// The word behind `index` others, or an empty one; one that is no text is taken as '..'.
+fn word_at(line: &[u8], index: usize) -> &str {
+    let mut rest = line;
+    for _ in 0..index {
+        match next_word(rest) {
+            Some((_, after)) => rest = after,
+            None => return "",
+        }
+    }
+    match next_word(rest) {
+        Some((word, _)) => str::from_utf8(word).unwrap_or(".."),
+        None => "",
+    }
+}
 
 /// The form of a daemon's operation, with `daemon D` in front.
 fn operation(op: &str) -> &'static str {
@@ -34,9 +51,9 @@ fn operation(op: &str) -> &'static str {
     }
 }
 
-/// The form of a line with this first word and, of a daemon's line, this operation.
-pub fn form(first: &str, op: &str) -> &'static str {
-    match first {
+/// The form of a line by its first word and, of a daemon's line, by its operation.
+pub fn form(line: &[u8]) -> &'static str {
+    match word_at(line, 0) {
         "limit" =>
             "before the phases 'limit entries N', 'limit unresolved N' or 'limit control N', each once",
         "lanes" => "before the phases 'lanes N', once",
@@ -44,14 +61,14 @@ pub fn form(first: &str, op: &str) -> &'static str {
         "smc" => "before the phases 'smc FILE ..'",
         "phase" => "'phase' alone",
         "lane" => "in a phase 'lane L pkt DEV HEX' or 'lane L trace DEV FILE'",
-        "daemon" => operation(op),
+        "daemon" => operation(word_at(line, 2)),
         _ => "a line that begins with limit, lanes, device, daemon, smc, phase or lane",
     }
 }
 
-/// What there is one too many of.
-pub fn limit(alloc: Global, first: &str) -> Result<String, AllocError> {
-    match first {
+/// How many there may be of what a line gives.
+pub fn limit(alloc: Global, line: &[u8]) -> Result<String, AllocError> {
+    match word_at(line, 0) {
         "device" => format!(in alloc; "at most {MOST_DEVICES} devices"),
         "daemon" | "smc" => format!(in alloc; "at most {MOST_DAEMONS} daemons"),
         "phase" => format!(in alloc; "at most {MOST_PHASES} phases"),

@@ -6,7 +6,6 @@
 mod explain;
 mod folder;
 mod form;
-mod found;
 mod shown;
 mod standard;
 #[cfg(test)]

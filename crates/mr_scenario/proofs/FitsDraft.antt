@@ -15,13 +15,13 @@ use Rattle.mr_scenario.specs.declared.scenario.Named.{Named}
 use Rattle.mr_scenario.specs.declared.scenario.Phase.{Phase}
 use Rattle.mr_scenario.specs.declared.scenario.Scenario.{Scenario}
 use Rattle.mr_scenario.specs.declared.scenario.ScriptLine.{ScriptLine}
-use Rattle.mr_scenario.specs.declared.stop.Kind.{Kind}
 use Rattle.mr_scenario.specs.declared.stop.Kind.TheVariants as kind
+use Rattle.mr_scenario.specs.declared.stop.Mistake.{Mistake}
 use Rattle.mr_scenario.specs.Counts.{Word, none_of, one_of, two_of, four_of, two_led}
 use Rattle.mr_scenario.specs.Fits.{Fits, IsItem, IsAsked, packets_in, packets_of}
 use Rattle.mr_scenario.specs.Forms.{number_in, address_word, is_taken, device_from, device_of, hex_word}
 use Rattle.mr_scenario.specs.HeadLines.{header_line, limit, entries_limit, unresolved_limit, control_limit, limit_line, lanes_line, with_device, device_line, with_daemon, daemon_line, files_from, smc_line}
-use Rattle.mr_scenario.specs.Kinds.{bad, or_bad}
+use Rattle.mr_scenario.specs.Kinds.{in_line, bad, or_bad}
 use Rattle.mr_scenario.specs.Laws.{SpelledFits}
 use Rattle.mr_scenario.specs.PhaseLines.{lanes_of, phases_so_far, with_phase, phase_line, device_word, packet_item, trace_item, lane_line, daemon_word, who_of, script_line}
 use Rattle.mr_scenario.specs.Requests.{script_of}
@@ -67,7 +67,7 @@ pub record Keeps (d : Draft) : Type 0 where
   pub phases : length (phases_so_far d) ≤ 1000
   pub fair : AreFair d (phases_so_far d)
 
-abbrev Kept : Result Draft Kind → Type 0
+abbrev Kept : Result Draft Mistake → Type 0
 Kept r = IfOk r Keeps
 
 no_phases : (d : Draft) → d.current ≡ None → d.phases ≡ [] → phases_so_far d ≡ []
@@ -128,8 +128,8 @@ same_head d e h a b c f g i = record {
 
 header_keeps : (d : Draft) (ws : List Word) → Keeps d → Kept (header_line d ws)
 header_keeps d ws k =
-    then_ok (or_bad (two_of ws) kind.Header) _ Keeps (λ w.
-    wanted (bytes_eq w.0 (codes "scenario") && bytes_eq w.1 (codes "1")) kind.Header _ Keeps (λ _.
+    then_ok (or_bad (two_of ws) (in_line kind.Header)) _ Keeps (λ w.
+    wanted (bytes_eq w.0 (codes "scenario") && bytes_eq w.1 (codes "1")) (in_line kind.Header) _ Keeps (λ _.
     record {
       head = same_head d (record d { begun = true }) k.head refl refl refl refl refl refl;
       first = k.first;
@@ -169,8 +169,8 @@ device_within n w (d ∷ ds) = first_or (device_from (n + 1) w ds) (device_withi
 
 limit_within : (before : Option ℕ) (most : ℕ) (w : Word) → IfOk (limit before most w) (IsWithin 1 most)
 limit_within before most w =
-    wanted (is_none before) kind.Word _ (IsWithin 1 most) (λ _.
-    ok_bad (number_in 1 most w) (bad w kind.Number) (IsWithin 1 most) (number_within 1 most w))
+    wanted (is_none before) (in_line kind.Word) _ (IsWithin 1 most) (λ _.
+    ok_bad (number_in 1 most w) (bad 2 w (kind.Number 1 most)) (IsWithin 1 most) (number_within 1 most w))
 
 entries_keep : (d : Draft) (w : Word) → Keeps d → d.current ≡ None → Kept (entries_limit d w)
 entries_keep d w k now =
@@ -195,27 +195,27 @@ controls_keep d w k now =
 
 limit_keeps : (d : Draft) (ws : List Word) → Keeps d → d.current ≡ None → Kept (limit_line d ws)
 limit_keeps d ws k now =
-    then_ok (or_bad (two_of ws) kind.Word) _ Keeps (λ w.
+    then_ok (or_bad (two_of ws) (in_line kind.Word)) _ Keeps (λ w.
     ok_if (bytes_eq w.0 (codes "entries")) _ _ Keeps (entries_keep d w.1 k now)
     (ok_if (bytes_eq w.0 (codes "unresolved")) _ _ Keeps (unresolved_keep d w.1 k now)
-    (ok_if (bytes_eq w.0 (codes "control")) (control_limit d w.1) (Err kind.Word) Keeps (controls_keep d w.1 k now) tt)))
+    (ok_if (bytes_eq w.0 (codes "control")) (control_limit d w.1) (Err (in_line kind.Word)) Keeps (controls_keep d w.1 k now) tt)))
 
 lanes_keep : (d : Draft) (ws : List Word) → Keeps d → d.current ≡ None → Kept (lanes_line d ws)
 lanes_keep d ws k now =
     let h = k.head in
-    then_ok (or_bad (one_of ws) kind.Word) _ Keeps (λ w.
-    wanted (is_none d.lanes) kind.Word _ Keeps (λ _.
-    ok_then (or_bad (number_of 16 w) (bad w kind.Number)) _ (λ n. n ≤ 16) Keeps (ok_bad (number_of 16 w) (bad w kind.Number) (λ n. n ≤ 16) (number_least 16 w)) (λ n within.
+    then_ok (or_bad (one_of ws) (in_line kind.Word)) _ Keeps (λ w.
+    wanted (is_none d.lanes) (in_line kind.Word) _ Keeps (λ _.
+    ok_then (or_bad (number_of 16 w) (bad 1 w (kind.Number 0 16))) _ (λ n. n ≤ 16) Keeps (ok_bad (number_of 16 w) (bad 1 w (kind.Number 0 16)) (λ n. n ≤ 16) (number_least 16 w)) (λ n within.
     head_kept d (record d { lanes = Some n }) k now refl refl refl
     (record { entries = h.entries; unresolved = h.unresolved; controls = h.controls; lanes = within; devices = h.devices; daemons = h.daemons }))))
 
 device_keeps : (d : Draft) (ws : List Word) → Keeps d → d.current ≡ None → Kept (device_line d ws)
 device_keeps d ws k now =
     let h = k.head in
-    then_ok (or_bad (two_of ws) kind.Word) _ Keeps (λ w.
-    wanted (is_device_name w.0 && not (is_taken d.devices w.0)) (bad w.0 kind.Name) _ Keeps (λ _.
-    then_ok (address_word w.1) _ Keeps (λ a.
-    wanted (nat_lt (length d.devices) 64) kind.Limit _ Keeps (λ less.
+    then_ok (or_bad (two_of ws) (in_line kind.Word)) _ Keeps (λ w.
+    wanted (is_device_name w.0 && not (is_taken d.devices w.0)) (bad 1 w.0 kind.Name) _ Keeps (λ _.
+    then_ok (address_word 2 w.1) _ Keeps (λ a.
+    wanted (nat_lt (length d.devices) 64) (in_line kind.Limit) _ Keeps (λ less.
     let more : length (with_device d w.0 a).devices ≤ 64 =
     omega (arith, ltb-true (length d.devices) 64 less, length-append d.devices (record { name = w.0; addr = record { 0 = a } } ∷ [])) in
     head_kept d (with_device d w.0 a) k now refl refl refl
@@ -224,26 +224,26 @@ device_keeps d ws k now =
 with_daemon_keeps : (d : Draft) (one : DaemonKind) → Keeps d → d.current ≡ None → Kept (with_daemon d one)
 with_daemon_keeps d one k now =
     let h = k.head in
-    wanted (nat_lt (length d.daemons) 8) kind.Limit _ Keeps (λ less.
+    wanted (nat_lt (length d.daemons) 8) (in_line kind.Limit) _ Keeps (λ less.
     let more : length (d.daemons ++ one ∷ []) ≤ 8 = omega (arith, ltb-true (length d.daemons) 8 less, length-append d.daemons (one ∷ [])) in
     head_kept d (record d { daemons = d.daemons ++ one ∷ [] }) k now refl refl refl
     (record { entries = h.entries; unresolved = h.unresolved; controls = h.controls; lanes = h.lanes; devices = h.devices; daemons = more }))
 
 daemon_keeps : (d : Draft) (ws : List Word) → Keeps d → d.current ≡ None → Kept (daemon_line d ws)
 daemon_keeps d ws k now =
-    then_ok (or_bad (one_of ws) kind.Word) _ Keeps (λ w.
+    then_ok (or_bad (one_of ws) (in_line kind.Word)) _ Keeps (λ w.
     ok_if (bytes_eq w (codes "admin")) _ _ Keeps (with_daemon_keeps d Admin k now)
-    (ok_if (bytes_eq w (codes "plain")) (with_daemon d Plain) (Err kind.Word) Keeps (with_daemon_keeps d Plain k now) tt))
+    (ok_if (bytes_eq w (codes "plain")) (with_daemon d Plain) (Err (in_line kind.Word)) Keeps (with_daemon_keeps d Plain k now) tt))
 
 smc_keeps : (d : Draft) (ws : List Word) → Keeps d → d.current ≡ None → Kept (smc_line d ws)
 smc_keeps d ws k now =
-    wanted (nat_lt 0 (length ws)) kind.Word _ Keeps (λ _.
+    wanted (nat_lt 0 (length ws)) (in_line kind.Word) _ Keeps (λ _.
     then_ok (files_from [] ws) _ Keeps (λ files. with_daemon_keeps d (Smc files) k now))
 
 phase_keeps : (n : ℕ) (d : Draft) (ws : List Word) → Keeps d → Kept (phase_line n d ws)
 phase_keeps n d ws k =
-    then_ok (or_bad (none_of ws) kind.Word) _ Keeps (λ _.
-    wanted (nat_lt (length (phases_so_far d)) 1000) kind.Limit _ Keeps (λ less.
+    then_ok (or_bad (none_of ws) (in_line kind.Word)) _ Keeps (λ _.
+    wanted (nat_lt (length (phases_so_far d)) 1000) (in_line kind.Limit) _ Keeps (λ less.
     let fresh : Phase = record { line = n; items = []; script = [] } in
     record {
       head = same_head d (with_phase n d) k.head refl refl refl refl refl refl;
@@ -261,10 +261,10 @@ head_keeps n d w ws k now =
     (ok_if (bytes_eq w (codes "device")) _ _ Keeps (device_keeps d ws k now)
     (ok_if (bytes_eq w (codes "daemon")) _ _ Keeps (daemon_keeps d ws k now)
     (ok_if (bytes_eq w (codes "smc")) _ _ Keeps (smc_keeps d ws k now)
-    (ok_if (bytes_eq w (codes "phase")) (phase_line n d ws) (Err kind.Word) Keeps (phase_keeps n d ws k) tt)))))
+    (ok_if (bytes_eq w (codes "phase")) (phase_line n d ws) (Err (in_line kind.Word)) Keeps (phase_keeps n d ws k) tt)))))
 
 device_ok : (d : Draft) (w : Word) → IfOk (device_word d w) (IsWithin 1 (length d.devices))
-device_ok d w = ok_bad (device_of w d.devices) (bad w kind.Device) (IsWithin 1 (length d.devices)) (by_device (device_of w d.devices) (device_within 1 w d.devices))
+device_ok d w = ok_bad (device_of w d.devices) (bad 3 w kind.Device) (IsWithin 1 (length d.devices)) (by_device (device_of w d.devices) (device_within 1 w d.devices))
   where
     by_device : (o : Option ℕ) → IfSome o (λ i. (1 ≤ i) × (i < 1 + length d.devices)) → IfSome o (IsWithin 1 (length d.devices))
     by_device None f = tt
@@ -278,39 +278,39 @@ item_fair d p i is f = record { items = all_push (IsItem (lanes_of d) (length d.
 packet_keeps : (n : ℕ) (d : Draft) (p : Phase) (lane : ℕ) (dev digits : Word) → Keeps d → d.current ≡ Some p → IsWithin 1 (lanes_of d) lane → Kept (packet_item n d p lane dev digits)
 packet_keeps n d p lane dev digits k now of_lane =
     ok_then (device_word d dev) _ (IsWithin 1 (length d.devices)) Keeps (device_ok d dev) (λ i of_device.
-    then_ok (hex_word digits) _ Keeps (λ bytes.
-    wanted (nat_lt d.sent 1048576) kind.Limit _ Keeps (λ less.
+    then_ok (hex_word 4 digits) _ Keeps (λ bytes.
+    wanted (nat_lt d.sent 1048576) (in_line kind.Limit) _ Keeps (λ less.
     let item : Item = record { line = n; lane = record { 0 = lane }; dev = i; given = Bytes bytes } in
     let room : d.sent < 1048576 = ltb-true d.sent 1048576 less in
     let one : packets_in item.given ≡ 1 = refl in
     moved_kept d p (record p { items = p.items ++ item ∷ [] }) (d.sent + 1) k now
     (omega (arith, one, sum_by_push (λ (x : Item). packets_in x.given) p.items item)) (omega (arith, room))
-    (item_fair d p item (record { least_lane = of_lane.least; most_lane = of_lane.most; least_device = of_device.least; most_device = of_device.most })))))
+    (item_fair d p item (record { least_lane = of_lane.least; most_lane = of_lane.most; least_device = of_device.least; most_device = of_device.most; file = tt })))))
 
 trace_keeps : (n : ℕ) (d : Draft) (p : Phase) (lane : ℕ) (dev file : Word) → Keeps d → d.current ≡ Some p → IsWithin 1 (lanes_of d) lane → Kept (trace_item n d p lane dev file)
 trace_keeps n d p lane dev file k now of_lane =
     ok_then (device_word d dev) _ (IsWithin 1 (length d.devices)) Keeps (device_ok d dev) (λ i of_device.
-    wanted (is_file file) (bad file kind.File) _ Keeps (λ _.
+    wanted (is_file file) (bad 4 file kind.File) _ Keeps (λ named.
     let item : Item = record { line = n; lane = record { 0 = lane }; dev = i; given = Trace file } in
     let none : packets_in item.given ≡ 0 = refl in
     moved_kept d p (record p { items = p.items ++ item ∷ [] }) d.sent k now
     (omega (arith, none, sum_by_push (λ (x : Item). packets_in x.given) p.items item)) k.most_sent
-    (item_fair d p item (record { least_lane = of_lane.least; most_lane = of_lane.most; least_device = of_device.least; most_device = of_device.most }))))
+    (item_fair d p item (record { least_lane = of_lane.least; most_lane = of_lane.most; least_device = of_device.least; most_device = of_device.most; file = named }))))
 
 lane_keeps : (n : ℕ) (d : Draft) (p : Phase) (ws : List Word) → Keeps d → d.current ≡ Some p → Kept (lane_line n d p ws)
 lane_keeps n d p ws k now =
-    then_ok (or_bad (four_of ws) kind.Word) _ Keeps (λ w.
-    ok_then (or_bad (number_in 1 (lanes_of d) w.0) (bad w.0 kind.Lane)) _ (IsWithin 1 (lanes_of d)) Keeps
-    (ok_bad (number_in 1 (lanes_of d) w.0) (bad w.0 kind.Lane) (IsWithin 1 (lanes_of d)) (number_within 1 (lanes_of d) w.0)) (λ lane of_lane.
+    then_ok (or_bad (four_of ws) (in_line kind.Word)) _ Keeps (λ w.
+    ok_then (or_bad (number_in 1 (lanes_of d) w.0) (bad 1 w.0 kind.Lane)) _ (IsWithin 1 (lanes_of d)) Keeps
+    (ok_bad (number_in 1 (lanes_of d) w.0) (bad 1 w.0 kind.Lane) (IsWithin 1 (lanes_of d)) (number_within 1 (lanes_of d) w.0)) (λ lane of_lane.
     ok_if (bytes_eq w.1 (codes "pkt")) _ _ Keeps (packet_keeps n d p lane w.2 w.3 k now of_lane)
-    (ok_if (bytes_eq w.1 (codes "trace")) (trace_item n d p lane w.2 w.3) (Err kind.Word) Keeps (trace_keeps n d p lane w.2 w.3 k now of_lane) tt)))
+    (ok_if (bytes_eq w.1 (codes "trace")) (trace_item n d p lane w.2 w.3) (Err (in_line kind.Word)) Keeps (trace_keeps n d p lane w.2 w.3 k now of_lane) tt)))
 
 script_keeps : (n : ℕ) (d : Draft) (p : Phase) (ws : List Word) → Keeps d → d.current ≡ Some p → Kept (script_line n d p ws)
 script_keeps n d p ws k now =
-    then_ok (or_bad (two_led ws) kind.Word) _ Keeps (λ w.
+    then_ok (or_bad (two_led ws) (in_line kind.Word)) _ Keeps (λ w.
     then_ok (script_of w.1 (who_of d w.0) w.2) _ Keeps (λ s.
     ok_then (daemon_word d w.0) _ (IsWithin 1 (length d.daemons)) Keeps
-    (ok_bad (number_in 1 (length d.daemons) w.0) (bad w.0 kind.Daemon) (IsWithin 1 (length d.daemons)) (number_within 1 (length d.daemons) w.0)) (λ i of_daemon.
+    (ok_bad (number_in 1 (length d.daemons) w.0) (bad 1 w.0 kind.Daemon) (IsWithin 1 (length d.daemons)) (number_within 1 (length d.daemons) w.0)) (λ i of_daemon.
     let l : ScriptLine = record { line = n; daemon = record { 0 = i }; script = s } in
     moved_kept d p (record p { script = p.script ++ l ∷ [] }) d.sent k now refl k.most_sent
     (λ f. record { items = f.items; script = all_push (IsAsked (length d.daemons)) p.script l f.script (record { least = of_daemon.least; most = of_daemon.most }) }))))
@@ -319,7 +319,7 @@ part_keeps : (n : ℕ) (d : Draft) (p : Phase) (w : Word) (ws : List Word) → K
 part_keeps n d p w ws k now =
     ok_if (bytes_eq w (codes "lane")) _ _ Keeps (lane_keeps n d p ws k now)
     (ok_if (bytes_eq w (codes "daemon")) _ _ Keeps (script_keeps n d p ws k now)
-    (ok_if (bytes_eq w (codes "phase")) (phase_line n d ws) (Err kind.Word) Keeps (phase_keeps n d ws k) tt))
+    (ok_if (bytes_eq w (codes "phase")) (phase_line n d ws) (Err (in_line kind.Word)) Keeps (phase_keeps n d ws k) tt))
 
 in_keeps : (n : ℕ) (d : Draft) (c : Option Phase) (w : Word) (ws : List Word) → Keeps d → d.current ≡ c → Kept (line_in n d c w ws)
 in_keeps n d None w ws k now = head_keeps n d w ws k now
@@ -329,7 +329,7 @@ pub line_keeps : (n : ℕ) (d : Draft) (ws : List Word) → Keeps d → Kept (li
 line_keeps n d [] k = k
 line_keeps n d (w ∷ ws) k = ok_if d.begun _ _ Keeps (in_keeps n d d.current w ws k refl) (header_keeps d (w ∷ ws) k)
 
-at_keeps : (n : ℕ) (l : List ℕ) (r : Result Draft Kind) → Kept r → IfOk (at_line n l r) Keeps
+at_keeps : (n : ℕ) (l : List ℕ) (r : Result Draft Mistake) → Kept r → IfOk (at_line n l r) Keeps
 at_keeps n l (Ok d) k = k
 at_keeps n l (Err e) k = tt
 

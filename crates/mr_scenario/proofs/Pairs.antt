@@ -79,12 +79,12 @@ pub pairs_done : (done : List ℕ) (ps : List (List ℕ)) (i : ℕ) (all : Optio
 pairs_done done ps i all over same = sym same ∙ rw (drop_of_length-le ps over, append-nil done) refl
 
 -- what a word of hex digits gives, and what one that is none gives
-pub hex_read : (w bs : List ℕ) → length w ≤ 131070 → bytes_of w ≡ Some bs → hex_word w ≡ Ok bs
-hex_read w bs most reads = rw (le-leb (length w) 131070 most, reads) refl
+pub hex_read : (place : ℕ) (w bs : List ℕ) → length w ≤ 131070 → bytes_of w ≡ Some bs → hex_word place w ≡ Ok bs
+hex_read place w bs most reads = rw (le-leb (length w) 131070 most, reads) refl
 
-pub hex_refused : (w : List ℕ) → bytes_of w ≡ None → hex_word w ≡ Err (bad w kind.Hex)
-hex_refused w none = by_test (nat_le (length w) 131070)
+pub hex_refused : (place : ℕ) (w : List ℕ) → bytes_of w ≡ None → hex_word place w ≡ Err (bad place w kind.Hex)
+hex_refused place w none = by_test (nat_le (length w) 131070)
   where
-    by_test : (test : Bool) → word_as (if test then bytes_of w else None) w kind.Hex ≡ Err (bad w kind.Hex)
+    by_test : (test : Bool) → word_as (if test then bytes_of w else None) place w kind.Hex ≡ Err (bad place w kind.Hex)
     by_test true = rw none refl
     by_test false = refl

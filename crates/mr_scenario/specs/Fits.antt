@@ -1,5 +1,5 @@
 -- What a scenario that was read keeps: it fits its own limits, and those of the machine.
-use Rattle.std.specs.Prelude.{◌≡◌, ◌≤◌, ℕ, List, length, map, replicate, sum_by}
+use Rattle.std.specs.Prelude.{◌≡◌, ◌≤◌, ℕ, true, List, length, map, replicate, sum_by}
 use Rattle.std.specs.List.{AllByRecursion}
 use Rattle.mr_scenario.specs.Spelled.{is_admin_kind, address_only}
 use Rattle.mr_scenario.specs.declared.scenario.Given.{Given}
@@ -8,6 +8,12 @@ use Rattle.mr_scenario.specs.declared.scenario.Item.{Item}
 use Rattle.mr_scenario.specs.declared.scenario.Phase.{Phase}
 use Rattle.mr_scenario.specs.declared.scenario.Scenario.{Scenario}
 use Rattle.mr_scenario.specs.declared.scenario.ScriptLine.{ScriptLine}
+use Rattle.mr_words.specs.Names.{is_file}
+
+-- A file is named by a word for files.
+abbrev pub IsFileGiven : Given → Type 0
+IsFileGiven (Bytes bs) = Unit {0}
+IsFileGiven (Trace file) = is_file file ≡ true
 
 -- an item of one of so many lanes, on one of so many devices
 pub record IsItem (lanes devices : ℕ) (i : Item) : Type 0 where
@@ -15,6 +21,7 @@ pub record IsItem (lanes devices : ℕ) (i : Item) : Type 0 where
   pub most_lane : i.lane.0 ≤ lanes
   pub least_device : 1 ≤ i.dev
   pub most_device : i.dev ≤ devices
+  pub file : IsFileGiven i.given
 
 -- a line of one of so many daemons
 pub record IsAsked (daemons : ℕ) (l : ScriptLine) : Type 0 where

@@ -1,10 +1,10 @@
 -- The forms of single words: devices, local fields, thresholds, hex digits.
 use Rattle.std.specs.Prelude.{ℕ, ◌+◌, ◌-◌, ◌*◌, ◌==◌, ◌&&◌, Bool, true, false, nat_le, if◌then◌else◌, Option, Some, None, option_and_then, Result, Ok, Err, List, [], ◌∷◌, length, bytes_eq, codes, slice_index_or, slice_set}
 use Rattle.std.specs.List.{list_any}
-use Rattle.mr_scenario.specs.Kinds.{word_as}
+use Rattle.mr_scenario.specs.Kinds.{in_word, word_as}
 use Rattle.mr_scenario.specs.declared.scenario.Named.{Named}
-use Rattle.mr_scenario.specs.declared.stop.Kind.{Kind}
 use Rattle.mr_scenario.specs.declared.stop.Kind.TheVariants as kind
+use Rattle.mr_scenario.specs.declared.stop.Mistake.{Mistake}
 use Rattle.mr_words.specs.Binds.{◌>>=◌}
 use Rattle.mr_words.specs.Items.{item_of}
 use Rattle.mr_words.specs.Numbers.{is_digit, number_of, address_of}
@@ -13,12 +13,15 @@ use Rattle.mr_words.specs.Numbers.{is_digit, number_of, address_of}
 abbrev pub number_in : ℕ → ℕ → List ℕ → Option ℕ
 number_in least most w = option_and_then (λ n. if nat_le least n then Some n else None) (number_of most w)
 
--- a number word, an address word, and what is wrong where they are none
-abbrev pub number_word : ℕ → List ℕ → Result ℕ Kind
-number_word most w = word_as (number_of most w) w kind.Number
+-- a number word of at most so much, and one of at least 1, or what is wrong with the word at this place
+abbrev pub number_word : ℕ → ℕ → List ℕ → Result ℕ Mistake
+number_word place most w = word_as (number_of most w) place w (kind.Number 0 most)
 
-abbrev pub address_word : List ℕ → Result ℕ Kind
-address_word w = word_as (address_of w) w kind.Address
+abbrev pub positive_word : ℕ → ℕ → List ℕ → Result ℕ Mistake
+positive_word place most w = word_as (number_in 1 most w) place w (kind.Number 1 most)
+
+abbrev pub address_word : ℕ → List ℕ → Result ℕ Mistake
+address_word place w = word_as (address_of w) place w kind.Address
 
 abbrev pub is_taken : List Named → List ℕ → Bool
 is_taken devices w = list_any (λ d. bytes_eq d.name w) devices
@@ -33,14 +36,17 @@ abbrev pub device_of : List ℕ → List Named → Option ℕ
 device_of w devices = device_from 1 w devices
 
 -- a local field: `@N`, else an address as a number
-abbrev pub local_word : List ℕ → Result ℕ Kind
-local_word [] = Err kind.Address
-local_word (b ∷ w) = if b == 64 then word_as (number_of 4294967295 w) w kind.Number else address_word (b ∷ w)
+abbrev pub local_word : ℕ → List ℕ → Result ℕ Mistake
+local_word place [] = Err (in_word place kind.Address)
+local_word place (b ∷ w) = if b == 64 then number_word place 4294967295 w else address_word place (b ∷ w)
 
--- The thresholds with those of further items `V:T`: each vif stands once.
-abbrev pub thresholds_from : List ℕ → List Bool → List (List ℕ) → Result (List ℕ) Kind
-thresholds_from ttls seen [] = Ok ttls
-thresholds_from ttls seen (w ∷ ws) = word_as (item_of w) w kind.Threshold >>= λ i. if slice_index_or seen i.0 false then Err kind.Threshold else thresholds_from (slice_set ttls i.0 i.1) (slice_set seen i.0 true) ws
+-- The thresholds with those of further items `V:T`, the first of them at this place: each vif stands once.
+abbrev pub thresholds_from : ℕ → List ℕ → List Bool → List (List ℕ) → Result (List ℕ) Mistake
+thresholds_from place ttls seen [] = Ok ttls
+thresholds_from place ttls seen (w ∷ ws) =
+    word_as (item_of w) place w kind.Threshold >>= λ i.
+    if slice_index_or seen i.0 false then Err (in_word place kind.Threshold)
+    else thresholds_from (place + 1) (slice_set ttls i.0 i.1) (slice_set seen i.0 true) ws
 
 -- the value of a hex digit
 abbrev pub hex_digit : ℕ → Option ℕ
@@ -63,9 +69,9 @@ bytes_of (h ∷ l ∷ ds) = hex_byte (hex_digit h) (hex_digit l) (bytes_of ds)
 abbrev pub hex_of : List ℕ → Option (List ℕ)
 hex_of w = if nat_le (length w) 131070 then bytes_of w else None
 
-abbrev pub hex_word : List ℕ → Result (List ℕ) Kind
-hex_word w = word_as (hex_of w) w kind.Hex
+abbrev pub hex_word : ℕ → List ℕ → Result (List ℕ) Mistake
+hex_word place w = word_as (hex_of w) place w kind.Hex
 
 -- the bytes of a raw option: hex digits, or `-` for none
-abbrev pub raw_word : List ℕ → Result (List ℕ) Kind
-raw_word w = if bytes_eq w (codes "-") then Ok [] else hex_word w
+abbrev pub raw_word : ℕ → List ℕ → Result (List ℕ) Mistake
+raw_word place w = if bytes_eq w (codes "-") then Ok [] else hex_word place w

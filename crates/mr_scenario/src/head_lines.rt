@@ -7,9 +7,9 @@ ghost use Rattle.mr_words.specs.Words.{words_of};
 
 use crate::counting::{one_word, two_words};
 use crate::draft::Draft;
-use crate::forms::{address_word, bad, is_taken, number_in, number_word};
+use crate::forms::{address_word, is_taken, number_word, positive_word};
 use crate::scenario::{DaemonKind, Named};
-use crate::stop::{Kind, Stop};
+use crate::stop::{Kind, Mistake, Stop, bad, in_line};
 use mr_base::{
     Addr, FileName, List, MOST_CONFIGURATIONS, MOST_CONTROLS, MOST_DAEMONS, MOST_DEVICES,
     MOST_ENTRIES, MOST_LANES, MOST_UNRESOLVED,
@@ -21,25 +21,22 @@ use std::alloc::Global;
 pub fn header_line(draft: &mut Draft, words: &[u8]) -> Result<(), Stop>
     ensures { Steps result draft.new (header_line draft.old (words_of words.now)) }
 {
-    let (name, version) = two_words(words).ok_or(Kind::Header)?;
+    let (name, version) = two_words(words).ok_or(in_line(Kind::Header))?;
     if name != b"scenario".as_slice() || version != b"1".as_slice() {
-        return Err(Stop::Bad(Kind::Header));
+        return Err(Stop::Bad(in_line(Kind::Header)));
     }
     draft.begun = true;
     Ok(())
 }
 
 /// A limit, which stands at most once.
-fn limit(before: Option<u32>, most: u32, word: &[u8]) -> Result<u32, Kind>
+fn limit(before: Option<u32>, most: u32, word: &[u8]) -> Result<u32, Mistake>
     ensures { result ≡ limit before most word.now }
 {
     if before.is_some() {
-        return Err(Kind::Word);
+        return Err(in_line(Kind::Word));
     }
-    match number_in(1, most, word) {
-        Some(number) => Ok(number),
-        None => Err(bad(word, Kind::Number)),
-    }
+    positive_word(2, most, word)
 }
 
 /// `limit entries N`
@@ -77,7 +74,7 @@ fn limit_by_name(draft: &mut Draft, name: &[u8], word: &[u8]) -> Result<(), Stop
     } else if name == b"control".as_slice() {
         control_limit(draft, word)
     } else {
-        Err(Stop::Bad(Kind::Word))
+        Err(Stop::Bad(in_line(Kind::Word)))
     }
 }
 
@@ -85,7 +82,7 @@ fn limit_by_name(draft: &mut Draft, name: &[u8], word: &[u8]) -> Result<(), Stop
 pub fn limit_line(draft: &mut Draft, words: &[u8]) -> Result<(), Stop>
     ensures { Steps result draft.new (limit_line draft.old (words_of words.now)) }
 {
-    let (name, number) = two_words(words).ok_or(Kind::Word)?;
+    let (name, number) = two_words(words).ok_or(in_line(Kind::Word))?;
     limit_by_name(draft, name, number)
 }
 
@@ -93,11 +90,11 @@ pub fn limit_line(draft: &mut Draft, words: &[u8]) -> Result<(), Stop>
 pub fn lanes_line(draft: &mut Draft, words: &[u8]) -> Result<(), Stop>
     ensures { Steps result draft.new (lanes_line draft.old (words_of words.now)) }
 {
-    let number = one_word(words).ok_or(Kind::Word)?;
+    let number = one_word(words).ok_or(in_line(Kind::Word))?;
     if draft.lanes.is_some() {
-        return Err(Stop::Bad(Kind::Word));
+        return Err(Stop::Bad(in_line(Kind::Word)));
     }
-    draft.lanes = Some(number_word(MOST_LANES, number)?);
+    draft.lanes = Some(number_word(1, MOST_LANES, number)?);
     Ok(())
 }
 
@@ -105,13 +102,13 @@ pub fn lanes_line(draft: &mut Draft, words: &[u8]) -> Result<(), Stop>
 pub fn device_line(draft: &mut Draft, words: &[u8]) -> Result<(), Stop>
     ensures { Steps result draft.new (device_line draft.old (words_of words.now)) }
 {
-    let (name, addr) = two_words(words).ok_or(Kind::Word)?;
+    let (name, addr) = two_words(words).ok_or(in_line(Kind::Word))?;
     if !is_device_name(name) || is_taken(draft.devices.0.as_slice(), name) {
-        return Err(Stop::Bad(bad(name, Kind::Name)));
+        return Err(Stop::Bad(bad(1, name, Kind::Name)));
     }
-    let addr = address_word(addr)?;
+    let addr = address_word(2, addr)?;
     if draft.devices.0.as_slice().len() >= MOST_DEVICES {
-        return Err(Stop::Bad(Kind::Limit));
+        return Err(Stop::Bad(in_line(Kind::Limit)));
     }
     draft.devices.0.push(Named {
         name: name_of(name),
@@ -125,7 +122,7 @@ fn push_daemon(draft: &mut Draft, kind: DaemonKind) -> Result<(), Stop>
     ensures { Steps result draft.new (with_daemon draft.old kind) }
 {
     if draft.daemons.0.as_slice().len() >= MOST_DAEMONS {
-        return Err(Stop::Bad(Kind::Limit));
+        return Err(Stop::Bad(in_line(Kind::Limit)));
     }
     draft.daemons.0.push(kind)?;
     Ok(())
@@ -140,7 +137,7 @@ fn daemon_by_word(draft: &mut Draft, word: &[u8]) -> Result<(), Stop>
     } else if word == b"plain".as_slice() {
         push_daemon(draft, DaemonKind::Plain)
     } else {
-        Err(Stop::Bad(Kind::Word))
+        Err(Stop::Bad(in_line(Kind::Word)))
     }
 }
 
@@ -148,7 +145,7 @@ fn daemon_by_word(draft: &mut Draft, word: &[u8]) -> Result<(), Stop>
 pub fn daemon_line(draft: &mut Draft, words: &[u8]) -> Result<(), Stop>
     ensures { Steps result draft.new (daemon_line draft.old (words_of words.now)) }
 {
-    let sort = one_word(words).ok_or(Kind::Word)?;
+    let sort = one_word(words).ok_or(in_line(Kind::Word))?;
     daemon_by_word(draft, sort)
 }
 
@@ -160,7 +157,7 @@ fn files_of(alloc: Global, words: &[u8]) -> Result<List<FileName>, Stop>
     let mut rest = words;
     'words: while let Some((word, after)) = next_word(rest) {
         if !is_file(word) || files.len() >= MOST_CONFIGURATIONS {
-            return Err(Stop::Bad(bad(word, Kind::File)));
+            return Err(Stop::Bad(bad(files.len() as u32 + 1, word, Kind::File)));
         }
         files.push(name_of(word))?;
         rest = after;
@@ -173,7 +170,7 @@ pub fn smc_line(alloc: Global, draft: &mut Draft, words: &[u8]) -> Result<(), St
     ensures { Steps result draft.new (smc_line draft.old (words_of words.now)) }
 {
     if next_word(words).is_none() {
-        return Err(Stop::Bad(Kind::Word));
+        return Err(Stop::Bad(in_line(Kind::Word)));
     }
     let files = files_of(alloc, words)?;
     push_daemon(draft, DaemonKind::Smc(files))

@@ -7,8 +7,7 @@ ghost use Rattle.mr_scenario.specs.Forms.{hex_digit, hex_word, raw_word};
 ghost use Rattle.mr_scenario.specs.declared.stop.Kind.TheVariants as kind;
 ghost use Rattle.mr_scenario.specs.declared.stop.Stop.TheVariants as stop;
 
-use crate::forms::bad;
-use crate::stop::{Kind, Stop};
+use crate::stop::{Kind, Stop, bad};
 use mr_base::List;
 use std::alloc::Global;
 
@@ -49,28 +48,28 @@ fn byte_of(high: u8, low: u8) -> Option<u8>
 }
 
 /// What is wrong with a word that is refused as hex digits.
-fn bad_hex(word: &[u8]) -> Stop
-    ensures { result ≡ stop.Bad (bad word.now kind.Hex) }
+fn bad_hex(place: u32, word: &[u8]) -> Stop
+    ensures { result ≡ stop.Bad (bad place word.now kind.Hex) }
 {
-    Stop::Bad(bad(word, Kind::Hex))
+    Stop::Bad(bad(place, word, Kind::Hex))
 }
 
-/// The bytes that a word of hex digits spells, two digits each.
+/// The bytes that the word of hex digits at a place spells, two digits each.
 #[inline(never)]
-pub fn hex_word(alloc: Global, word: &[u8]) -> Result<List<u8>, Stop>
-    ensures { Reads (λ l. l) result (hex_word word.now) }
+pub fn hex_word(alloc: Global, place: u32, word: &[u8]) -> Result<List<u8>, Stop>
+    ensures { Reads (λ l. l) result (hex_word place word.now) }
 {
     if word.len() > 131_070 {
-        return Err(bad_hex(word));
+        return Err(bad_hex(place, word));
     }
     if word.len() % 2 != 0 {
-        return Err(bad_hex(word));
+        return Err(bad_hex(place, word));
     }
     let (pairs, _) = word.as_chunks::<2>();
     let mut bytes = Vec::with_capacity(alloc, pairs.len())?;
     for pair in pairs {
         let Some(byte) = byte_of(pair[0], pair[1]) else {
-            return Err(bad_hex(word));
+            return Err(bad_hex(place, word));
         };
         bytes.push_reserved(byte);
     }
@@ -78,11 +77,11 @@ pub fn hex_word(alloc: Global, word: &[u8]) -> Result<List<u8>, Stop>
 }
 
 /// The bytes of a raw option: hex digits, or `-` for none.
-pub fn raw_word(alloc: Global, word: &[u8]) -> Result<List<u8>, Stop>
-    ensures { Reads (λ l. l) result (raw_word word.now) }
+pub fn raw_word(alloc: Global, place: u32, word: &[u8]) -> Result<List<u8>, Stop>
+    ensures { Reads (λ l. l) result (raw_word place word.now) }
 {
     if word == b"-".as_slice() {
         return Ok(List(Vec::new(alloc)));
     }
-    hex_word(alloc, word)
+    hex_word(alloc, place, word)
 }

@@ -6,23 +6,23 @@ ghost use Rattle.mr_scenario.specs.Requests.{raw_script, tick_script, recv_scrip
 ghost use Rattle.mr_words.specs.Words.{words_of};
 
 use crate::counting::{no_words, one_word, some_words, two_words};
-use crate::forms::{bad, number_in, number_word};
+use crate::forms::{number_word, positive_word};
 use crate::hex::raw_word;
 use crate::requests::{by_hand, by_smcroute, request_of, value};
 use crate::scenario::Script;
-use crate::stop::{Kind, Stop};
-use mr_base::List;
+use crate::stop::{Kind, Mistake, Stop, in_line};
+use mr_base::{List, MOST_UNREAD};
 use mr_words::{is_clean, next_word};
 use std::alloc::Global;
 
 /// `raw OPT HEX`
-fn raw_script(alloc: Global, who: Result<bool, Kind>, words: &[u8]) -> Result<Script, Stop>
+fn raw_script(alloc: Global, who: Result<bool, Mistake>, words: &[u8]) -> Result<Script, Stop>
     ensures { Reads (λ s. s) result (raw_script who (words_of words.now)) }
 {
-    let (opt, digits) = two_words(words).ok_or(Kind::Word)?;
+    let (opt, digits) = two_words(words).ok_or(in_line(Kind::Word))?;
     by_hand(who)?;
-    let opt = number_word(65_535, opt)?;
-    let bytes = raw_word(alloc, digits)?;
+    let opt = number_word(3, 65_535, opt)?;
+    let bytes = raw_word(alloc, 4, digits)?;
     Ok(Script::Raw {
         opt: opt as u16,
         bytes,
@@ -30,43 +30,40 @@ fn raw_script(alloc: Global, who: Result<bool, Kind>, words: &[u8]) -> Result<Sc
 }
 
 /// `tick MS`, for every sort of daemon
-fn tick_script(who: Result<bool, Kind>, words: &[u8]) -> Result<Script, Kind>
+fn tick_script(who: Result<bool, Mistake>, words: &[u8]) -> Result<Script, Mistake>
     ensures { result ≡ tick_script who (words_of words.now) }
 {
-    let ms = one_word(words).ok_or(Kind::Word)?;
+    let ms = one_word(words).ok_or(in_line(Kind::Word))?;
     who?;
-    let ms = number_word(4_294_967_295, ms)?;
+    let ms = number_word(3, 4_294_967_295, ms)?;
     Ok(Script::Tick(ms))
 }
 
 /// `recv`
-fn recv_script(who: Result<bool, Kind>, words: &[u8]) -> Result<Script, Kind>
+fn recv_script(who: Result<bool, Mistake>, words: &[u8]) -> Result<Script, Mistake>
     ensures { result ≡ recv_script who (words_of words.now) }
 {
-    no_words(words).ok_or(Kind::Word)?;
+    no_words(words).ok_or(in_line(Kind::Word))?;
     by_hand(who)?;
     Ok(Script::Recv)
 }
 
 /// `start`
-fn start_script(who: Result<bool, Kind>, words: &[u8]) -> Result<Script, Kind>
+fn start_script(who: Result<bool, Mistake>, words: &[u8]) -> Result<Script, Mistake>
     ensures { result ≡ start_script who (words_of words.now) }
 {
-    no_words(words).ok_or(Kind::Word)?;
+    no_words(words).ok_or(in_line(Kind::Word))?;
     by_smcroute(who)?;
     Ok(Script::Start)
 }
 
 /// `poll N`, 1 to 64
-fn poll_script(who: Result<bool, Kind>, words: &[u8]) -> Result<Script, Kind>
+fn poll_script(who: Result<bool, Mistake>, words: &[u8]) -> Result<Script, Mistake>
     ensures { result ≡ poll_script who (words_of words.now) }
 {
-    let number = one_word(words).ok_or(Kind::Word)?;
+    let number = one_word(words).ok_or(in_line(Kind::Word))?;
     by_smcroute(who)?;
-    match number_in(1, 64, number) {
-        Some(most) => Ok(Script::Poll(most)),
-        None => Err(bad(number, Kind::Number)),
-    }
+    Ok(Script::Poll(positive_word(3, MOST_UNREAD as u32, number)?))
 }
 
 /// A first word and further ones, parted by one space.
@@ -77,7 +74,7 @@ fn joined(alloc: Global, first: &[u8], words: &[u8]) -> Result<List<u8>, Stop>
     let mut rest = words;
     'words: while let Some((word, after)) = next_word(rest) {
         if !is_clean(word) {
-            return Err(Stop::Bad(Kind::Word));
+            return Err(Stop::Bad(in_line(Kind::Word)));
         }
         text.push(b' ')?;
         text.extend_from_slice(word)?;
@@ -87,13 +84,13 @@ fn joined(alloc: Global, first: &[u8], words: &[u8]) -> Result<List<u8>, Stop>
 }
 
 /// `smc WORDS`: one word or more
-fn words_script(alloc: Global, who: Result<bool, Kind>, words: &[u8]) -> Result<Script, Stop>
+fn words_script(alloc: Global, who: Result<bool, Mistake>, words: &[u8]) -> Result<Script, Stop>
     ensures { Reads (λ s. s) result (words_script who (words_of words.now)) }
 {
-    let (first, rest) = some_words(words).ok_or(Kind::Word)?;
+    let (first, rest) = some_words(words).ok_or(in_line(Kind::Word))?;
     by_smcroute(who)?;
     if !is_clean(first) {
-        return Err(Stop::Bad(Kind::Word));
+        return Err(Stop::Bad(in_line(Kind::Word)));
     }
     let text = joined(alloc, first, rest)?;
     Ok(Script::Words(text))
@@ -103,7 +100,7 @@ fn words_script(alloc: Global, who: Result<bool, Kind>, words: &[u8]) -> Result<
 fn smcroute_script(
     alloc: Global,
     op: &[u8],
-    who: Result<bool, Kind>,
+    who: Result<bool, Mistake>,
     words: &[u8],
 ) -> Result<Script, Stop>
     ensures { Reads (λ s. s) result (smcroute_script op.now who (words_of words.now)) }
@@ -123,7 +120,7 @@ fn smcroute_script(
 pub fn script_of(
     alloc: Global,
     op: &[u8],
-    who: Result<bool, Kind>,
+    who: Result<bool, Mistake>,
     words: &[u8],
 ) -> Result<Script, Stop>
     ensures { Reads (λ s. s) result (script_of op.now who (words_of words.now)) }

@@ -11,11 +11,11 @@ ghost use Rattle.mr_words.specs.Words.{words_of};
 use crate::boxed_name::BoxedName;
 use crate::counting::{four_words, led_by_two, no_words};
 use crate::draft::Draft;
-use crate::forms::{bad, device_of, number_in};
+use crate::forms::{device_of, number_in};
 use crate::hex::hex_word;
 use crate::operations::script_of;
 use crate::scenario::{DaemonKind, Given, Item, Phase, ScriptLine};
-use crate::stop::{Kind, Stop};
+use crate::stop::{Kind, Mistake, Stop, bad, in_line};
 use mr_base::{DaemonNo, LaneNo, List, MOST_ITEMS, MOST_PHASES};
 use mr_words::{is_file, name_of};
 use std::alloc::{AllocError, Global};
@@ -34,10 +34,10 @@ pub fn close_phase(draft: &mut Draft) -> Result<(), AllocError>
 pub fn phase_line(alloc: Global, line: u32, draft: &mut Draft, words: &[u8]) -> Result<(), Stop>
     ensures { Steps result draft.new (phase_line line draft.old (words_of words.now)) }
 {
-    no_words(words).ok_or(Kind::Word)?;
+    no_words(words).ok_or(in_line(Kind::Word))?;
     close_phase(draft)?;
     if draft.phases.0.as_slice().len() >= MOST_PHASES {
-        return Err(Stop::Bad(Kind::Limit));
+        return Err(Stop::Bad(in_line(Kind::Limit)));
     }
     draft.current = Some(Phase {
         line,
@@ -55,13 +55,13 @@ pub fn lanes_of(draft: &Draft) -> u32
 }
 
 /// The number of a device that is declared.
-fn device_word(draft: &Draft, word: &[u8]) -> Result<u32, Kind>
+fn device_word(draft: &Draft, word: &[u8]) -> Result<u32, Mistake>
     requires { length draft.now.devices ≤ 64 }
     ensures { result ≡ device_word draft.now word.now }
 {
     match device_of(word, draft.devices.0.as_slice()) {
         Some(number) => Ok(number),
-        None => Err(bad(word, Kind::Device)),
+        None => Err(bad(3, word, Kind::Device)),
     }
 }
 
@@ -103,9 +103,9 @@ fn packet_item(
     ensures { Steps result draft.new (packet_item line draft.old (phase_of draft.old) lane dev.now digits.now) }
 {
     let dev = device_word(draft, dev)?;
-    let bytes = hex_word(alloc, digits)?;
+    let bytes = hex_word(alloc, 4, digits)?;
     if draft.sent >= MOST_ITEMS {
-        return Err(Stop::Bad(Kind::Limit));
+        return Err(Stop::Bad(in_line(Kind::Limit)));
     }
     let item = Item {
         line,
@@ -132,7 +132,7 @@ fn trace_item(
 {
     let dev = device_word(draft, dev)?;
     if !is_file(file) {
-        return Err(Stop::Bad(bad(file, Kind::File)));
+        return Err(Stop::Bad(bad(4, file, Kind::File)));
     }
     let name = BoxedName::new(alloc, name_of(file))?;
     let item = Item {
@@ -164,17 +164,17 @@ fn item_by_word(
     } else if what == b"trace".as_slice() {
         trace_item(alloc, line, draft, lane, dev, given)
     } else {
-        Err(Stop::Bad(Kind::Word))
+        Err(Stop::Bad(in_line(Kind::Word)))
     }
 }
 
 /// The number of a lane.
-fn lane_word(draft: &Draft, word: &[u8]) -> Result<u32, Kind>
-    ensures { result ≡ word_as (number_in 1 (lanes_of draft.now) word.now) word.now kind.Lane }
+fn lane_word(draft: &Draft, word: &[u8]) -> Result<u32, Mistake>
+    ensures { result ≡ word_as (number_in 1 (lanes_of draft.now) word.now) 1 word.now kind.Lane }
 {
     match number_in(1, lanes_of(draft), word) {
         Some(lane) => Ok(lane),
-        None => Err(bad(word, Kind::Lane)),
+        None => Err(bad(1, word, Kind::Lane)),
     }
 }
 
@@ -185,7 +185,7 @@ pub fn lane_line(alloc: Global, line: u32, draft: &mut Draft, words: &[u8]) -> R
     requires phase { is_some draft.old.current ≡ true }
     ensures { Steps result draft.new (lane_line line draft.old (phase_of draft.old) (words_of words.now)) }
 {
-    let (lane, what, dev, given) = four_words(words).ok_or(Kind::Word)?;
+    let (lane, what, dev, given) = four_words(words).ok_or(in_line(Kind::Word))?;
     let lane = lane_word(draft, lane)?;
     item_by_word(alloc, line, draft, lane, what, dev, given)
 }
@@ -213,18 +213,18 @@ fn is_smc_at(daemons: &[DaemonKind], number: u32) -> bool
 }
 
 /// The number of a daemon that is declared.
-fn daemon_word(draft: &Draft, word: &[u8]) -> Result<u32, Kind>
+fn daemon_word(draft: &Draft, word: &[u8]) -> Result<u32, Mistake>
     requires { length draft.now.daemons ≤ 8 }
     ensures { result ≡ daemon_word draft.now word.now }
 {
     match number_in(1, draft.daemons.0.as_slice().len() as u32, word) {
         Some(number) => Ok(number),
-        None => Err(bad(word, Kind::Daemon)),
+        None => Err(bad(1, word, Kind::Daemon)),
     }
 }
 
 /// Whether the daemon that a word names is driven by smcroute.
-fn who_of(draft: &Draft, word: &[u8]) -> Result<bool, Kind>
+fn who_of(draft: &Draft, word: &[u8]) -> Result<bool, Mistake>
     requires { length draft.now.daemons ≤ 8 }
     ensures { result ≡ who_of draft.now word.now }
 {
@@ -249,7 +249,7 @@ pub fn script_line(alloc: Global, line: u32, draft: &mut Draft, words: &[u8]) ->
     requires phase { is_some draft.old.current ≡ true }
     ensures { Steps result draft.new (script_line line draft.old (phase_of draft.old) (words_of words.now)) }
 {
-    let (number, op, rest) = led_by_two(words).ok_or(Kind::Word)?;
+    let (number, op, rest) = led_by_two(words).ok_or(in_line(Kind::Word))?;
     let who = who_of(draft, number);
     let script = script_of(alloc, op, who, rest)?;
     let daemon = DaemonNo(daemon_word(draft, number)?);

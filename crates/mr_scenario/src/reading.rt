@@ -1,8 +1,9 @@
 //! A scenario is read from its bytes.
 
-ghost use Rattle.std.specs.Prelude.{◌≡◌, ◌≤◌, None, true, is_some, length, map, replicate, take, IfOk};
+ghost use Rattle.std.specs.Prelude.{◌≡◌, ◌≤◌, None, true, is_some, length, map, replicate, slice_index_or, take, IfOk, []};
 ghost use Rattle.mr_scenario.specs.Answers.{Steps, Gives};
 ghost use Rattle.mr_scenario.specs.Fits.{Fits};
+ghost use Rattle.mr_scenario.specs.Kinds.{found};
 ghost use Rattle.mr_scenario.specs.PhaseLines.{phases_so_far, phase_of};
 ghost use Rattle.mr_scenario.specs.Spelled.{head_line, phase_part, line_in, line_of, draft_from, empty_draft, is_admin_kind, address_only, limits_of, whole, spelled};
 ghost use Rattle.mr_scenario.specs.declared.stop.TheConstants.{MOST_TEXT};
@@ -12,7 +13,7 @@ use crate::draft::Draft;
 use crate::head_lines::{daemon_line, device_line, header_line, lanes_line, limit_line, smc_line};
 use crate::phase_lines::{close_phase, lane_line, lanes_of, phase_line, script_line};
 use crate::scenario::{DaemonKind, Named, Scenario};
-use crate::stop::{Kind, MOST_TEXT, ScenarioError, Stop};
+use crate::stop::{Kind, MOST_TEXT, Mistake, ScenarioError, Stop, in_line};
 use mr_base::{DEFAULT_CONTROLS, DEFAULT_ENTRIES, DEFAULT_UNRESOLVED, Device, List};
 use mr_model::Limits;
 use mr_words::{next_word, split_line, trimmed};
@@ -41,7 +42,7 @@ fn head_line(
     } else if word == b"phase".as_slice() {
         phase_line(alloc, line, draft, words)
     } else {
-        Err(Stop::Bad(Kind::Word))
+        Err(Stop::Bad(in_line(Kind::Word)))
     }
 }
 
@@ -65,7 +66,7 @@ fn phase_part(
     } else if word == b"phase".as_slice() {
         phase_line(alloc, line, draft, words)
     } else {
-        Err(Stop::Bad(Kind::Word))
+        Err(Stop::Bad(in_line(Kind::Word)))
     }
 }
 
@@ -106,14 +107,41 @@ fn line_of(alloc: Global, line: u32, draft: &mut Draft, words: &[u8]) -> Result<
     }
 }
 
-/// The first bytes of a line, as an error carries them.
-fn front_of(line: &[u8]) -> &[u8]
-    ensures { result.now ≡ take MOST_TEXT line.now }
+/// The word behind so many others, or an empty one.
+fn word_at(line: &[u8], place: u32) -> &[u8]
+    ensures { result.now ≡ slice_index_or (words_of line.now) place [] }
 {
-    if line.len() > MOST_TEXT {
-        &line[..MOST_TEXT]
+    let mut left = place;
+    let mut rest = line;
+    'words: while let Some((word, after)) = next_word(rest) {
+        if left == 0 {
+            return word;
+        }
+        left -= 1;
+        rest = after;
+    }
+    &[]
+}
+
+/// What is at fault in a line.
+fn found(mistake: Mistake, line: &[u8]) -> &[u8]
+    ensures { result.now ≡ found mistake line.now }
+{
+    if mistake.kind.names_word() {
+        word_at(line, mistake.place)
     } else {
         line
+    }
+}
+
+/// The first bytes, as many as an error carries.
+fn front_of(bytes: &[u8]) -> &[u8]
+    ensures { result.now ≡ take MOST_TEXT bytes.now }
+{
+    if bytes.len() > MOST_TEXT {
+        &bytes[..MOST_TEXT]
+    } else {
+        bytes
     }
 }
 
@@ -140,8 +168,9 @@ fn draft_of(alloc: Global, bytes: &[u8]) -> Result<Draft, ScenarioError>
         let text = trimmed(text);
         match line_of(alloc, line, &mut draft, text) {
             Ok(()) => {}
-            Err(Stop::Bad(kind)) => {
-                let text = List(Vec::from_slice(alloc, front_of(text))?);
+            Err(Stop::Bad(mistake)) => {
+                let text = List(Vec::from_slice(alloc, front_of(found(mistake, text)))?);
+                let kind = mistake.kind;
                 return Err(ScenarioError::Bad { line, kind, text });
             }
             Err(Stop::Memory) => return Err(ScenarioError::Memory),
@@ -233,8 +262,8 @@ fn whole(alloc: Global, draft: Draft) -> Result<Scenario, ScenarioError>
     })
 }
 
-/// The scenario that bytes spell: `Bad` with the first bad line, what is wrong with it and how the line
-/// begins, or `Memory` where it runs out.
+/// The scenario that bytes spell: `Bad` with the first bad line, what is wrong with it and what was found
+/// there, or `Memory` where it runs out.
 pub fn read(alloc: Global, bytes: &[u8]) -> Result<Scenario, ScenarioError>
     ensures spelled { Gives (λ s. s) result (spelled bytes.now) }
     ensures fits { IfOk result Fits }

@@ -6,42 +6,46 @@ ghost use Rattle.mr_words.specs.Words.{words_of};
 
 use crate::counting::{led_by_three, no_words, one_word, three_words, two_words};
 use crate::forms::{address_word, local_word, number_word, thresholds};
-use crate::stop::Kind;
+use crate::stop::{Kind, Mistake, in_line, in_word, wants};
 use mr_base::Addr;
 use mr_model::{MfcCtl, MfcKey, Request, VifCtl};
 
 /// A plain or admin daemon alone.
-pub fn by_hand(who: Result<bool, Kind>) -> Result<(), Kind>
+pub fn by_hand(who: Result<bool, Mistake>) -> Result<(), Mistake>
     ensures { result ≡ by_hand who }
 {
-    if who? { Err(Kind::Daemon) } else { Ok(()) }
+    wants(!who?, in_word(1, Kind::Daemon))
 }
 
 /// An smcroute daemon alone.
-pub fn by_smcroute(who: Result<bool, Kind>) -> Result<(), Kind>
+pub fn by_smcroute(who: Result<bool, Mistake>) -> Result<(), Mistake>
     ensures { result ≡ by_smcroute who }
 {
-    if who? { Ok(()) } else { Err(Kind::Daemon) }
+    wants(who?, in_word(1, Kind::Daemon))
 }
 
 /// A request without operands.
-fn plain_request(request: Request, who: Result<bool, Kind>, words: &[u8]) -> Result<Request, Kind>
+fn plain_request(
+    request: Request,
+    who: Result<bool, Mistake>,
+    words: &[u8],
+) -> Result<Request, Mistake>
     ensures { result ≡ plain_request request who (words_of words.now) }
 {
-    no_words(words).ok_or(Kind::Word)?;
+    no_words(words).ok_or(in_line(Kind::Word))?;
     by_hand(who)?;
     Ok(request)
 }
 
 /// `I F LOCAL`
-fn vif_ctl(who: Result<bool, Kind>, words: &[u8]) -> Result<VifCtl, Kind>
+fn vif_ctl(who: Result<bool, Mistake>, words: &[u8]) -> Result<VifCtl, Mistake>
     ensures { result ≡ vif_ctl who (words_of words.now) }
 {
-    let (vif, flags, local) = three_words(words).ok_or(Kind::Word)?;
+    let (vif, flags, local) = three_words(words).ok_or(in_line(Kind::Word))?;
     by_hand(who)?;
-    let vif = number_word(65_535, vif)?;
-    let flags = number_word(255, flags)?;
-    let local = local_word(local)?;
+    let vif = number_word(3, 65_535, vif)?;
+    let flags = number_word(4, 255, flags)?;
+    let local = local_word(5, local)?;
     Ok(VifCtl {
         vif: vif as u16,
         flags: flags as u8,
@@ -50,14 +54,14 @@ fn vif_ctl(who: Result<bool, Kind>, words: &[u8]) -> Result<VifCtl, Kind>
 }
 
 /// `S G P V:T ..`
-fn mfc_ctl(who: Result<bool, Kind>, words: &[u8]) -> Result<MfcCtl, Kind>
+fn mfc_ctl(who: Result<bool, Mistake>, words: &[u8]) -> Result<MfcCtl, Mistake>
     ensures { result ≡ mfc_ctl who (words_of words.now) }
 {
-    let (src, dst, parent, items) = led_by_three(words).ok_or(Kind::Word)?;
+    let (src, dst, parent, items) = led_by_three(words).ok_or(in_line(Kind::Word))?;
     by_hand(who)?;
-    let src = address_word(src)?;
-    let dst = address_word(dst)?;
-    let parent = number_word(65_535, parent)?;
+    let src = address_word(3, src)?;
+    let dst = address_word(4, dst)?;
+    let parent = number_word(5, 65_535, parent)?;
     let ttls = thresholds(items)?;
     Ok(MfcCtl {
         src: Addr(src),
@@ -68,14 +72,14 @@ fn mfc_ctl(who: Result<bool, Kind>, words: &[u8]) -> Result<MfcCtl, Kind>
 }
 
 /// `S G P`
-fn mfc_key(who: Result<bool, Kind>, words: &[u8]) -> Result<MfcKey, Kind>
+fn mfc_key(who: Result<bool, Mistake>, words: &[u8]) -> Result<MfcKey, Mistake>
     ensures { result ≡ mfc_key who (words_of words.now) }
 {
-    let (src, dst, parent) = three_words(words).ok_or(Kind::Word)?;
+    let (src, dst, parent) = three_words(words).ok_or(in_line(Kind::Word))?;
     by_hand(who)?;
-    let src = address_word(src)?;
-    let dst = address_word(dst)?;
-    let parent = number_word(65_535, parent)?;
+    let src = address_word(3, src)?;
+    let dst = address_word(4, dst)?;
+    let parent = number_word(5, 65_535, parent)?;
     Ok(MfcKey {
         src: Addr(src),
         dst: Addr(dst),
@@ -84,23 +88,23 @@ fn mfc_key(who: Result<bool, Kind>, words: &[u8]) -> Result<MfcKey, Kind>
 }
 
 /// `N`, at most `most`.
-pub fn value(most: u32, who: Result<bool, Kind>, words: &[u8]) -> Result<u32, Kind>
+pub fn value(most: u32, who: Result<bool, Mistake>, words: &[u8]) -> Result<u32, Mistake>
     ensures value { result ≡ value most who (words_of words.now) }
     ensures within { IfOk result (λ n. n ≤ most) }
 {
-    let number = one_word(words).ok_or(Kind::Word)?;
+    let number = one_word(words).ok_or(in_line(Kind::Word))?;
     by_hand(who)?;
-    number_word(most, number)
+    number_word(3, most, number)
 }
 
 /// `S G`
-fn count_request(who: Result<bool, Kind>, words: &[u8]) -> Result<Request, Kind>
+fn count_request(who: Result<bool, Mistake>, words: &[u8]) -> Result<Request, Mistake>
     ensures { result ≡ count_request who (words_of words.now) }
 {
-    let (src, dst) = two_words(words).ok_or(Kind::Word)?;
+    let (src, dst) = two_words(words).ok_or(in_line(Kind::Word))?;
     by_hand(who)?;
-    let src = address_word(src)?;
-    let dst = address_word(dst)?;
+    let src = address_word(3, src)?;
+    let dst = address_word(4, dst)?;
     Ok(Request::SgCount {
         src: Addr(src),
         dst: Addr(dst),
@@ -108,15 +112,15 @@ fn count_request(who: Result<bool, Kind>, words: &[u8]) -> Result<Request, Kind>
 }
 
 /// An operation that is none: its daemon is tested first.
-fn unknown(who: Result<bool, Kind>) -> Result<Request, Kind>
+fn unknown(who: Result<bool, Mistake>) -> Result<Request, Mistake>
     ensures { result ≡ unknown who }
 {
     who?;
-    Err(Kind::Word)
+    Err(in_line(Kind::Word))
 }
 
 /// The requests that read: `version`, `getpim`, `getassert`, `vifcnt I`, `sgcnt S G`
-fn question(op: &[u8], who: Result<bool, Kind>, words: &[u8]) -> Result<Request, Kind>
+fn question(op: &[u8], who: Result<bool, Mistake>, words: &[u8]) -> Result<Request, Mistake>
     ensures { result ≡ question op.now who (words_of words.now) }
 {
     if op == b"version".as_slice() {
@@ -135,7 +139,7 @@ fn question(op: &[u8], who: Result<bool, Kind>, words: &[u8]) -> Result<Request,
 }
 
 /// The requests on switches: `pim N`, `assert N`, `flush N`
-fn switch_request(op: &[u8], who: Result<bool, Kind>, words: &[u8]) -> Result<Request, Kind>
+fn switch_request(op: &[u8], who: Result<bool, Mistake>, words: &[u8]) -> Result<Request, Mistake>
     ensures { result ≡ switch_request op.now who (words_of words.now) }
 {
     if op == b"pim".as_slice() {
@@ -150,7 +154,7 @@ fn switch_request(op: &[u8], who: Result<bool, Kind>, words: &[u8]) -> Result<Re
 }
 
 /// The requests on entries: `addmfc S G P V:T ..`, `delmfc S G P`, and both for a proxy
-fn entry_request(op: &[u8], who: Result<bool, Kind>, words: &[u8]) -> Result<Request, Kind>
+fn entry_request(op: &[u8], who: Result<bool, Mistake>, words: &[u8]) -> Result<Request, Mistake>
     ensures { result ≡ entry_request op.now who (words_of words.now) }
 {
     if op == b"addmfc".as_slice() {
@@ -167,7 +171,7 @@ fn entry_request(op: &[u8], who: Result<bool, Kind>, words: &[u8]) -> Result<Req
 }
 
 /// All requests; the other ones are `init`, `done`, `addvif I F LOCAL`, `delvif I`
-pub fn request_of(op: &[u8], who: Result<bool, Kind>, words: &[u8]) -> Result<Request, Kind>
+pub fn request_of(op: &[u8], who: Result<bool, Mistake>, words: &[u8]) -> Result<Request, Mistake>
     ensures { result ≡ request_of op.now who (words_of words.now) }
 {
     if op == b"init".as_slice() {

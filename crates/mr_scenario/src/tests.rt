@@ -2,6 +2,7 @@ use super::*;
 use crate::stop::ScenarioError;
 use mr_words::{next_word, number_of, past, split_line};
 use std::alloc::Global;
+use std::str;
 use std::test::Fail;
 
 /// The head lines before a row that is a head line, which is line 7.
@@ -327,6 +328,121 @@ fn mistakes(rt: HostRuntime) -> Result<(), Fail> {
     assert_eq!(rt; first_wrong(rt.alloc(), HEAD, HEAD_ROWS)?, 0);
     assert_eq!(rt; first_wrong(rt.alloc(), PHASE, PHASE_ROWS)?, 0);
     assert_eq!(rt; first_wrong(rt.alloc(), b"", WHOLE_ROWS)?, 0);
+    Ok(())
+}
+
+/// What is wrong with a row behind a front, and what was found.
+fn found(alloc: Global, front: &[u8], row: &str) -> Result<String, Fail> {
+    let mut text = Vec::from_slice(alloc, front)?;
+    text.extend_from_slice(row.as_bytes())?;
+    match read(alloc, text.as_slice()) {
+        Err(ScenarioError::Bad { kind, text, .. }) => {
+            let word = str::from_utf8(text.0.as_slice()).ok().ok_or("a text")?;
+            Ok(format!(in alloc; "{kind:?} {word}")?)
+        }
+        _ => Err(Fail::from("a good row")),
+    }
+}
+
+#[test]
+fn found_in_head_lines(rt: HostRuntime) -> Result<(), Fail> {
+    let rows = [
+        ("limit entries 0", "Number { least: 1, most: 16384 } 0"),
+        ("limit unresolved 065", "Number { least: 1, most: 64 } 065"),
+        ("limit control -", "Number { least: 1, most: 1048576 } -"),
+        ("lanes  17 # 3", "Number { least: 0, most: 16 } 17"),
+        ("device pimreg 10.0.2", "Name pimreg"),
+        ("device eth0 10.0.2.1", "Name eth0"),
+        ("\tdevice eth2\t10.0.2", "Address 10.0.2"),
+        ("daemon root # 1", "Word daemon root # 1"),
+        ("limit entries 5 6\r", "Word limit entries 5 6"),
+        ("smc a b out-c d/e", "File out-c"),
+        ("smc 1 2 3 4 5 6 7 8 9 10", "File 9"),
+        (
+            "smc 1\nsmc 2\nsmc 3\nsmc 4\nsmc 5\nsmc 6 7",
+            "Limit smc 6 7",
+        ),
+    ];
+    for (row, what) in rows {
+        assert_eq!(rt; found(rt.alloc(), HEAD, row)?.as_str(), what);
+    }
+    assert_eq!(rt;
+        found(rt.alloc(), b"", "\nscenario 2 # \n")?.as_str(),
+        "Header scenario 2 # "
+    );
+    assert_eq!(rt; found(rt.alloc(), b"\n", "# 1")?.as_str(), "Header ");
+    Ok(())
+}
+
+#[test]
+fn found_in_phase_lines(rt: HostRuntime) -> Result<(), Fail> {
+    let rows = [
+        ("lane 3 pkt eth9 0", "Lane 3"),
+        ("lane 1 pkt eth9 0", "Device eth9"),
+        ("lane 1 pkt eth0 0g", "Hex 0g"),
+        ("lane 1 trace eth0 a/b", "File a/b"),
+        ("daemon 4 init", "Daemon 4"),
+        ("daemon 1 poll 4", "Daemon 1"),
+        (
+            "daemon 1 addvif x y z",
+            "Number { least: 0, most: 65535 } x",
+        ),
+        (
+            "daemon 1 addvif 0 256 z",
+            "Number { least: 0, most: 255 } 256",
+        ),
+        (
+            "daemon 1 addvif 0 8 @z",
+            "Number { least: 0, most: 4294967295 } @z",
+        ),
+        ("daemon 1 addvif 0 8 1", "Address 1"),
+        ("daemon 1 addmfc 1 2 x 1:x", "Address 1"),
+        ("daemon 1 delmfc 10.0.0.9 2 x", "Address 2"),
+        (
+            "daemon 1 addmfc 10.0.0.9 239.1.1.1 x 1:x",
+            "Number { least: 0, most: 65535 } x",
+        ),
+        (
+            "daemon 1 addmfc 10.0.0.9 239.1.1.1 0 1:1 2:2 1:3 3:x",
+            "Threshold 1:3",
+        ),
+        (
+            "daemon 1 addproxy 10.0.0.9 239.1.1.1 0 32:1",
+            "Threshold 32:1",
+        ),
+        (
+            "daemon 1 delproxy 10.0.0.9 239.1.1.1 -1",
+            "Number { least: 0, most: 65535 } -1",
+        ),
+        (
+            "daemon 3 tick 01",
+            "Number { least: 0, most: 4294967295 } 01",
+        ),
+        ("daemon 3 poll 65", "Number { least: 1, most: 64 } 65"),
+        (
+            "daemon 1 raw 65536 0",
+            "Number { least: 0, most: 65535 } 65536",
+        ),
+        ("daemon 1 raw 0 -0", "Hex -0"),
+        ("daemon 1 sgcnt 10.0.0.9 g", "Address g"),
+    ];
+    for (row, what) in rows {
+        assert_eq!(rt; found(rt.alloc(), PHASE, row)?.as_str(), what);
+    }
+    Ok(())
+}
+
+#[test]
+fn found_words_are_cut(rt: HostRuntime) -> Result<(), Fail> {
+    let mut row = String::from_str(rt.alloc(), "lanes ")?;
+    for _ in 0..5000u32 {
+        row.push('7')?;
+    }
+    let what = found(rt.alloc(), HEAD, row.as_str())?;
+    assert_eq!(rt;
+        what.len(),
+        "Number { least: 0, most: 16 } ".len() + MOST_TEXT
+    );
     Ok(())
 }
 
