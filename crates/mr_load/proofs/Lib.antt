@@ -1,11 +1,12 @@
-pub mod LawPackets
+pub mod Rows
 pub mod LawDues
 pub mod HeldDues
 pub mod Numbered
 pub mod EachLane
 pub mod LanePasses
 pub mod Gathered
-pub mod AllBytes
-pub mod EveryItem
+pub mod Namings
+pub mod ReadOn
+pub mod Transport
 pub mod Loads
 pub mod LawLimits

@@ -1,16 +1,16 @@
 -- The packets of a lane, each with its phase and its bytes.
-use Rattle.std.specs.Prelude.{◌≡◌, ℕ, ◌+◌, ◌==◌, ◌<◌, ◌≤◌, is_none, if◌then◌else◌, None, List, [], ◌∷◌, ◌++◌, map}
+use Rattle.std.specs.Prelude.{◌≡◌, ℕ, ◌+◌, ◌==◌, ◌<◌, ◌≤◌, is_none, if◌then◌else◌, Some, None, List, [], ◌∷◌, ◌++◌, map}
 use Rattle.std.specs.List.{AllByRecursion}
 use Rattle.mr_base.specs.AcceptedHeads.{IsHeadOf}
 use Rattle.mr_base.specs.Heads.{cause_of}
 use Rattle.mr_base.specs.Outside.{Files}
 use Rattle.mr_base.specs.declared.head.Head.{Head}
 use Rattle.mr_base.specs.declared.numbers.LaneNo.{LaneNo}
+use Rattle.mr_load.specs.Items.{Content, contents_of, items_by, numbered}
 use Rattle.mr_load.specs.Made.{Sent, flow_of, items_of}
 use Rattle.mr_model.specs.declared.flow.Flow.{Flow}
 use Rattle.mr_model.specs.declared.packet.Packet.{Packet}
 use Rattle.mr_scenario.specs.declared.scenario.Given.{Given}
-use Rattle.mr_scenario.specs.declared.scenario.Given.TheVariants.{Bytes, Trace}
 use Rattle.mr_scenario.specs.declared.scenario.Item.{Item}
 use Rattle.mr_scenario.specs.declared.scenario.Phase.{Phase}
 use Rattle.mr_scenario.specs.declared.scenario.Scenario.{Scenario}
@@ -73,27 +73,33 @@ pub record AreDue (ds : List Due) : Type 0 where
 abbrev pub with_due : LaneValue → Due → LaneValue
 with_due v d = record { lane = v.lane; packets = v.packets ++ d ∷ [] }
 
--- item number n of a lane in phase k as a packet; none where its head is refused. Traces are not read yet.
-abbrev pub due_of : Files → ℕ → ℕ → ℕ → Given → List Due
-due_of files k n dev (Bytes bs) =
-    if is_none (cause_of bs) then record { phase = k; index = n; dev = dev; bytes = bs } ∷ [] else []
-due_of files k n dev (Trace file) = []
+-- an item of a line in phase k as a packet, by its number and what it brings; none where that is no IPv4, or its head is refused
+abbrev pub due_of : ℕ → Item → ℕ → Content → List Due
+due_of k i n None = []
+due_of k i n (Some bs) = if is_none (cause_of bs) then record { phase = k; index = n; dev = i.dev; bytes = bs } ∷ [] else []
 
--- the packets of a lane among items of phase k, of which the lane's first has number n
+-- the packets of a lane in phases, of which the first is phase k, behind the lines of the phases before
+abbrev pub dues_by : (Given → List Content) → ℕ → ℕ → List Item → List Phase → List Due
+dues_by contents lane k before [] = []
+dues_by contents lane k before (p ∷ ps) =
+    numbered (due_of k) contents lane (items_by contents lane before + 1) p.items
+    ++ dues_by contents lane (k + 1) (before ++ p.items) ps
+
+-- the packets of a lane among lines of phase k, of whose items the lane's first has number n
 abbrev pub dues_among : Files → ℕ → ℕ → ℕ → List Item → List Due
-dues_among files lane k n [] = []
-dues_among files lane k n (i ∷ is) =
-    if i.lane.0 == lane then due_of files k n i.dev i.given ++ dues_among files lane k (n + 1) is else dues_among files lane k n is
+dues_among files lane k n is = numbered (due_of k) (contents_of files) lane n is
 
--- the packets of a lane in phase k, behind the items of the phases before
+-- the packets of a lane in phase k, behind the lines of the phases before
 abbrev pub dues_in : Files → ℕ → ℕ → List Item → Phase → List Due
 dues_in files lane k before p = dues_among files lane k (items_of files lane before + 1) p.items
 
--- the packets of a lane in phases, of which the first is phase k, behind the items of the phases before
+-- the same in phases, of which the first is phase k
 abbrev pub dues_from : Files → ℕ → ℕ → List Item → List Phase → List Due
-dues_from files lane k before [] = []
-dues_from files lane k before (p ∷ ps) = dues_in files lane k before p ++ dues_from files lane (k + 1) (before ++ p.items) ps
+dues_from files lane k before ps = dues_by (contents_of files) lane k before ps
+
+abbrev pub lane_by : (Given → List Content) → Scenario → ℕ → LaneValue
+lane_by contents s lane = record { lane = record { 0 = lane }; packets = dues_by contents lane 0 [] s.phases }
 
 -- a lane of a scenario
 abbrev pub lane_of : Files → Scenario → ℕ → LaneValue
-lane_of files s lane = record { lane = record { 0 = lane }; packets = dues_from files lane 0 [] s.phases }
+lane_of files s lane = lane_by (contents_of files) s lane

@@ -1,17 +1,16 @@
 -- Laws of what is loaded.
-use Rattle.std.specs.Prelude.{◌≡◌, ℕ, ◌+◌, ◌≤◌, false, List, [], length, map}
+use Rattle.std.specs.Prelude.{◌≡◌, ℕ, ◌+◌, ◌≤◌, List, [], length, map}
 use Rattle.std.specs.List.{AllByRecursion}
 use Rattle.mr_base.specs.Outside.{Files}
 use Rattle.mr_load.specs.Dues.{sent_of, dues_in, dues_from}
 use Rattle.mr_load.specs.Loading.{skips_from, items_in}
 use Rattle.mr_load.specs.Made.{packets_from, items_of, to_send}
-use Rattle.mr_load.specs.Unbuilt.{is_trace}
 use Rattle.mr_scenario.specs.declared.scenario.Item.{Item}
 use Rattle.mr_scenario.specs.declared.scenario.Phase.{Phase}
 
--- every item of a lane is a packet or a skip, where none is a trace
+-- every item of a lane is a packet or a skip
 abbrev pub EveryItem : Type 0
-EveryItem = (files : Files) (lane n : ℕ) (is : List Item) → AllByRecursion (λ i. is_trace i.given ≡ false) is
+EveryItem = (files : Files) (lane n : ℕ) (is : List Item)
     → length (packets_from files lane n is) + length (skips_from files lane n is) ≡ items_of files lane is
 
 -- the packets that a lane has of a phase are those that it is to send in it

@@ -1,4 +1,7 @@
 pub mod Callers
+pub mod Items
+pub mod Naming
+pub mod Kept
 pub mod Made
 pub mod Dues
 pub mod HeldBytes
@@ -10,6 +13,7 @@ pub mod Refusals
 pub mod Passing
 pub mod Gathering
 pub mod Loads
+pub mod Reading
 pub mod RunLimits
 pub mod Statuses
 pub mod Laws

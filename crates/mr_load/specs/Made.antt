@@ -1,18 +1,17 @@
 -- A history has, phase by phase, each lane's packets and each daemon's calls once and in their order. What a scenario asks
--- stands in its lines and in the files that they name; no such file is looked into yet.
-use Rattle.std.specs.Prelude.{◌≡◌, ℕ, ◌+◌, ◌==◌, ◌≤◌, false, is_none, if◌then◌else◌, List, [], ◌∷◌, ◌++◌, length, map, flat_map, slice_index, sum_by}
+-- stands in its lines and in the traces that they name.
+use Rattle.std.specs.Prelude.{◌≡◌, ℕ, ◌+◌, ◌==◌, ◌≤◌, false, is_none, if◌then◌else◌, Some, None, List, [], ◌∷◌, ◌++◌, length, map, flat_map, slice_index}
 use Rattle.std.specs.List.{AllByRecursion, list_any}
 use Rattle.mr_base.specs.Heads.{cause_of, two_at, four_at}
 use Rattle.mr_base.specs.Outside.{Files}
 use Rattle.mr_load.specs.Callers.{IsCalled}
+use Rattle.mr_load.specs.Items.{Content, contents_of, items_by, numbered}
 use Rattle.mr_model.specs.declared.entry.Entry.{Entry}
 use Rattle.mr_model.specs.declared.entry.Entry.TheVariants.{Call, Slow, Settle, Tick, Recv, EndPhase}
 use Rattle.mr_model.specs.declared.flow.Flow.{Flow}
 use Rattle.mr_model.specs.Past.{is_end}
 use Rattle.mr_model.specs.declared.request.Request.TheVariants.{Unknown}
 use Rattle.mr_opt.specs.Options.{request_of}
-use Rattle.mr_scenario.specs.declared.scenario.Given.{Given}
-use Rattle.mr_scenario.specs.declared.scenario.Given.TheVariants.{Bytes, Trace}
 use Rattle.mr_scenario.specs.declared.scenario.Item.{Item}
 use Rattle.mr_scenario.specs.declared.scenario.Phase.{Phase}
 use Rattle.mr_scenario.specs.declared.scenario.Scenario.{Scenario}
@@ -54,20 +53,18 @@ flow_of dev bs = record {
   length = two_at bs 2;
 }
 
--- item number n of a lane as a packet; none where its head is refused. Traces are not read yet.
-abbrev pub packet_of : Files → ℕ → ℕ → Given → List Sent
-packet_of files n dev (Bytes bs) = if is_none (cause_of bs) then record { index = n; flow = flow_of dev bs } ∷ [] else []
-packet_of files n dev (Trace file) = []
+-- An item as a packet, by its line, its number and what it brings; none where that is no IPv4, or its head is refused.
+abbrev pub packet_of : Item → ℕ → Content → List Sent
+packet_of i n None = []
+packet_of i n (Some bs) = if is_none (cause_of bs) then record { index = n; flow = flow_of i.dev bs } ∷ [] else []
 
--- the packets of a lane among items, of which the lane's first has number n
+-- the packets of a lane among lines, of whose items the lane's first has number n
 abbrev pub packets_from : Files → ℕ → ℕ → List Item → List Sent
-packets_from files lane n [] = []
-packets_from files lane n (i ∷ is) =
-    if i.lane.0 == lane then packet_of files n i.dev i.given ++ packets_from files lane (n + 1) is else packets_from files lane n is
+packets_from files lane n is = numbered packet_of (contents_of files) lane n is
 
 -- how many items of a lane there are, and so the number of the last one
 abbrev pub items_of : Files → ℕ → List Item → ℕ
-items_of files lane is = sum_by (λ i. if i.lane.0 == lane then 1 else 0) is
+items_of files lane is = items_by (contents_of files) lane is
 
 -- the packets of a lane in a phase behind the items of the phases before
 abbrev pub to_send : Files → ℕ → List Item → Phase → List Sent

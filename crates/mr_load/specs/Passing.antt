@@ -1,11 +1,11 @@
 -- What a pass over items gives to the lanes.
 use Rattle.std.specs.Prelude.{◌≡◌, ℕ, ◌+◌, ◌≤◌, List, [], ◌∷◌, ◌++◌, length}
 use Rattle.std.specs.List.{AllByRecursion}
-use Rattle.mr_base.specs.Outside.{Files}
-use Rattle.mr_load.specs.Dues.{IsBefore, due_of, dues_among, dues_from}
-use Rattle.mr_load.specs.Loading.{skip_of, skip_dev, skips_from, skip_devs_in, items_in}
-use Rattle.mr_load.specs.Made.{items_of}
+use Rattle.mr_load.specs.Dues.{IsBefore, due_of, dues_by}
+use Rattle.mr_load.specs.Items.{Content, in_row, items_by, numbered}
+use Rattle.mr_load.specs.Loading.{skip_of, skip_dev, items_in}
 use Rattle.mr_load.specs.declared.passing.Passed.{Passed}
+use Rattle.mr_scenario.specs.declared.scenario.Given.{Given}
 use Rattle.mr_scenario.specs.declared.scenario.Item.{Item}
 use Rattle.mr_scenario.specs.declared.scenario.Phase.{Phase}
 
@@ -40,28 +40,29 @@ pub record IsOpen (k room lane : ℕ) (p : Passed) : Type 0 where
   pub before : AllByRecursion (IsBefore p.next k) p.packets.packets
   pub fits : p.next + room ≤ 4294967295
 
--- what one item of phase k gives to its lane
-pub record PassesItem (files : Files) (k : ℕ) (i : Item) (old new : Passed) : Type 0 where
+-- what a row of items that a line of phase k brings gives to their lane
+pub record PassesRow (k : ℕ) (i : Item) (cs : List Content) (old new : Passed) : Type 0 where
   pub lane_is : new.packets.lane ≡ old.packets.lane
-  pub packets : new.packets.packets ≡ old.packets.packets ++ due_of files k old.next i.dev i.given
-  pub skips : new.skips.items ≡ old.skips.items ++ skip_of files i.lane.0 old.next i.given
-  pub devs : new.devs.items ≡ old.devs.items ++ skip_dev files i.dev i.given
-  pub next : new.next ≡ old.next + 1
-
--- what items of phase k give to a lane
-pub record Passes (files : Files) (k : ℕ) (is : List Item) (lane : ℕ) (old new : Passed) : Type 0 where
-  pub lane_is : new.packets.lane ≡ old.packets.lane
-  pub packets : new.packets.packets ≡ old.packets.packets ++ dues_among files lane k old.next is
-  pub skips : new.skips.items ≡ old.skips.items ++ skips_from files lane old.next is
-  pub devs : new.devs.items ≡ old.devs.items ++ skip_devs_in files lane is
-  pub next : new.next ≡ old.next + items_of files lane is
+  pub packets : new.packets.packets ≡ old.packets.packets ++ in_row (due_of k i) old.next cs
+  pub skips : new.skips.items ≡ old.skips.items ++ in_row (skip_of i) old.next cs
+  pub devs : new.devs.items ≡ old.devs.items ++ in_row (skip_dev i) old.next cs
+  pub next : new.next ≡ old.next + length cs
   pub before : AllByRecursion (IsBefore new.next k) new.packets.packets
 
--- what all items of these phases give to a lane
-pub record HasPassed (files : Files) (ps : List Phase) (lane : ℕ) (now : Passed) : Type 0 where
+-- what lines of phase k give to a lane
+pub record Passes (contents : Given → List Content) (k : ℕ) (is : List Item) (lane : ℕ) (old new : Passed) : Type 0 where
+  pub lane_is : new.packets.lane ≡ old.packets.lane
+  pub packets : new.packets.packets ≡ old.packets.packets ++ numbered (due_of k) contents lane old.next is
+  pub skips : new.skips.items ≡ old.skips.items ++ numbered skip_of contents lane old.next is
+  pub devs : new.devs.items ≡ old.devs.items ++ numbered skip_dev contents lane old.next is
+  pub next : new.next ≡ old.next + items_by contents lane is
+  pub before : AllByRecursion (IsBefore new.next k) new.packets.packets
+
+-- what all lines of these phases give to a lane
+pub record HasPassed (contents : Given → List Content) (ps : List Phase) (lane : ℕ) (now : Passed) : Type 0 where
   pub lane_is : now.packets.lane ≡ record { 0 = lane }
-  pub packets : now.packets.packets ≡ dues_from files lane 0 [] ps
-  pub skips : now.skips.items ≡ skips_from files lane 1 (items_in ps)
-  pub devs : now.devs.items ≡ skip_devs_in files lane (items_in ps)
-  pub next : now.next ≡ items_of files lane (items_in ps) + 1
+  pub packets : now.packets.packets ≡ dues_by contents lane 0 [] ps
+  pub skips : now.skips.items ≡ numbered skip_of contents lane 1 (items_in ps)
+  pub devs : now.devs.items ≡ numbered skip_dev contents lane 1 (items_in ps)
+  pub next : now.next ≡ items_by contents lane (items_in ps) + 1
   pub before : AllByRecursion (IsBefore now.next (length ps)) now.packets.packets

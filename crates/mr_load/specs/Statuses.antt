@@ -7,6 +7,7 @@ abbrev pub number_of : Status → ℕ
 number_of status.Good = 0
 number_of status.Usage = 1
 number_of (status.Scenario line k text) = 2
+number_of (status.Trace file cause) = 3
 number_of (status.StoreFault file) = 4
 number_of status.SinkFault = 5
 number_of status.Memory = 6

@@ -1,11 +1,8 @@
--- The lines of a scenario whose form is not built yet: daemons of smcroute with their lines, and traces.
-use Rattle.std.specs.Prelude.{◌≡◌, ℕ, min, Bool, true, false, if◌then◌else◌, Option, Some, None, List, [], ◌∷◌, flat_map, bytes_eq, codes}
-use Rattle.std.specs.List.{list_any, AllByRecursion}
+-- The lines of a scenario whose form is not built yet: daemons of smcroute with their lines.
+use Rattle.std.specs.Prelude.{ℕ, min, Bool, true, false, if◌then◌else◌, Option, Some, None, List, [], ◌∷◌, flat_map, bytes_eq, codes}
+use Rattle.std.specs.List.{list_any}
 use Rattle.mr_scenario.specs.PhaseLines.{is_smc}
 use Rattle.mr_scenario.specs.Spelled.{next_line}
-use Rattle.mr_scenario.specs.declared.scenario.Given.{Given}
-use Rattle.mr_scenario.specs.declared.scenario.Given.TheVariants.{Bytes, Trace}
-use Rattle.mr_scenario.specs.declared.scenario.Item.{Item}
 use Rattle.mr_scenario.specs.declared.scenario.Phase.{Phase}
 use Rattle.mr_scenario.specs.declared.scenario.Scenario.{Scenario}
 use Rattle.mr_scenario.specs.declared.scenario.Script.{Script}
@@ -19,13 +16,6 @@ is_built_script script.Start = false
 is_built_script (script.Poll n) = false
 is_built_script (script.Words ws) = false
 is_built_script _ = true
-
-abbrev pub is_trace : Given → Bool
-is_trace (Bytes bs) = false
-is_trace (Trace file) = true
-
-abbrev pub unbuilt_item : Item → List ℕ
-unbuilt_item i = if is_trace i.given then i.line ∷ [] else []
 
 abbrev pub unbuilt_script : ScriptLine → List ℕ
 unbuilt_script l = if is_built_script l.script then [] else l.line ∷ []
@@ -42,7 +32,7 @@ least_from o (n ∷ ns) = least_from (lesser o n) ns
 
 -- this line, or the first of a phase whose form is not built
 abbrev pub least_with : Option ℕ → Phase → Option ℕ
-least_with o p = least_from (least_from o (flat_map unbuilt_item p.items)) (flat_map unbuilt_script p.script)
+least_with o p = least_from o (flat_map unbuilt_script p.script)
 
 abbrev pub least_in : Option ℕ → List Phase → Option ℕ
 least_in o [] = o
@@ -68,7 +58,3 @@ or_else (Some n) o = Some n
 -- The first line whose form is not built; head lines stand before phases.
 abbrev pub first_unbuilt : List ℕ → Scenario → Option ℕ
 first_unbuilt bytes s = or_else (smc_line bytes s) (least_in None s.phases)
-
--- no item is a trace
-abbrev pub AllBytes : List Phase → Type 0
-AllBytes ps = AllByRecursion (λ p. AllByRecursion (λ i. is_trace i.given ≡ false) p.items) ps

@@ -1,5 +1,5 @@
-//! A scenario is loaded: read from a store, and its items told apart into the packets and the skips
-//! of each lane. And what a history of a scenario has to have: each lane's packets and each daemon's
+//! A scenario is loaded: read from a store with the traces that it names, and its items told apart
+//! into the packets and the skips of each lane. And what a history of a scenario has to have: each lane's packets and each daemon's
 //! calls, once and in their order.
 #![tactic(auto)]
 
@@ -7,13 +7,18 @@ mod gathering;
 mod lane;
 mod laws;
 mod loading;
+mod naming;
 mod parts;
 mod passing;
+mod reading;
 mod status;
+mod totals;
+mod trace_name;
 mod unbuilt;
 
 pub use lane::LanePackets;
 pub use laws::{every_item, lanes_by_phases, limits_within};
 pub use loading::{Loaded, load};
 pub use parts::{devices_of, lanes_of, lines_of, phases_of};
-pub use status::Status;
+pub use status::{Status, TraceCause};
+pub use totals::MOST_TRACE_BYTES;

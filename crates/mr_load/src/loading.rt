@@ -1,19 +1,27 @@
-//! A scenario is loaded: read, and its items told apart into packets and skips.
+//! A scenario is loaded: read with its traces, and its items told apart into packets and skips.
 
-ghost use Rattle.std.specs.Prelude.{◌≡◌, ◌≤◌, ◌++◌, ◌∷◌, [], length, false, Err, None, IfOk, IfSome};
-ghost use Rattle.mr_base.specs.Outside.{Files, AllStay, Rose};
+ghost use Rattle.std.specs.Prelude.{◌≡◌, ◌≤◌, ◌++◌, ◌∷◌, [], List, Option, length, false, Err, None, IfOk, IfSome};
+ghost use Rattle.mr_base.specs.Outside.{Files, HasFile, AllStay, Rose};
+ghost use Rattle.mr_base.specs.declared.limits.TheConstants.{MOST_ITEMS};
 ghost use Rattle.mr_load.specs.Faults.{failed_read, is_fault, read_of};
-ghost use Rattle.mr_load.specs.Loads.{IsLoaded, Gives, LoadsTo, IfFault};
+ghost use Rattle.mr_load.specs.Items.{all_items};
+ghost use Rattle.mr_load.specs.Kept.{contents_kept};
+ghost use Rattle.mr_load.specs.Loading.{items_in};
+ghost use Rattle.mr_load.specs.Loads.{IsGiven, Gives, LoadsTo, IfFault};
+ghost use Rattle.mr_base.specs.declared.store_call.StoreCall.{StoreCall};
+ghost use Rattle.mr_load.specs.Reading.{Asks};
 ghost use Rattle.mr_load.specs.Refusals.{scenario_of};
-ghost use Rattle.mr_load.specs.Unbuilt.{AllBytes};
 ghost use Rattle.mr_load.specs.declared.status.Status.TheVariants as status;
 ghost use Rattle.mr_scenario.specs.Fits.{Fits};
 
 use crate::gathering::{Gathered, gather};
 use crate::lane::LanePackets;
+use crate::naming::named_in;
 use crate::parts::{limits_of, phases_of};
 use crate::passing::pass_lanes;
+use crate::reading::{Traces, read_traces};
 use crate::status::Status;
+use crate::totals::Totals;
 use crate::unbuilt::first_unbuilt;
 use mr_base::{FileName, List, ReadError, Store};
 use mr_lines::Skip;
@@ -50,14 +58,15 @@ fn limits_with(limits: &Limits, packets: Vec<u32>) -> Result<Limits, AllocError>
     })
 }
 
-/// A scenario with what its items give.
-fn with_items(alloc: Global, scenario: Scenario) -> Result<Loaded, AllocError>
+/// A scenario with what its items give, where these are the traces that it names.
+fn with_items(alloc: Global, scenario: Scenario, traces: &Traces) -> Result<Loaded, AllocError>
     requires fits { Fits scenario }
-    requires bytes { AllBytes scenario.phases }
+    requires items { all_items (contents_kept traces.now.entries) (items_in scenario.phases)
+        ≤ MOST_ITEMS }
     ensures scenario { IfOk result (λ l. l.scenario ≡ scenario) }
-    ensures loaded { IfOk result (λ l. (files : Files) → IsLoaded files l) }
+    ensures given { IfOk result (IsGiven (contents_kept traces.now.entries)) }
 {
-    let passed = pass_lanes(alloc, scenario.lanes, phases_of(&scenario))?;
+    let passed = pass_lanes(alloc, scenario.lanes, phases_of(&scenario), traces)?;
     let Gathered {
         lanes,
         counts,
@@ -75,10 +84,10 @@ fn with_items(alloc: Global, scenario: Scenario) -> Result<Loaded, AllocError>
 }
 
 /// The scenario that bytes spell, if its lines are built.
-fn load_bytes(alloc: Global, bytes: &[u8]) -> Result<Loaded, Status>
-    ensures scenario { Gives (λ l. l.scenario) result (scenario_of bytes.now) }
+fn scenario_in(alloc: Global, bytes: &[u8]) -> Result<Scenario, Status>
+    ensures scenario { Gives (λ s. s) result (scenario_of bytes.now) }
+    ensures fits { IfOk result Fits }
     ensures no_fault { is_fault result ≡ false }
-    ensures loaded { IfOk result (λ l. (files : Files) → IsLoaded files l) }
 {
     let scenario = match mr_scenario::read(alloc, bytes) {
         Ok(scenario) => scenario,
@@ -87,24 +96,62 @@ fn load_bytes(alloc: Global, bytes: &[u8]) -> Result<Loaded, Status>
         }
         Err(ScenarioError::Memory) => return Err(Status::Memory),
     };
-    if let Some(line) = first_unbuilt(bytes, &scenario) {
-        return Err(Status::NotBuilt { line });
+    match first_unbuilt(bytes, &scenario) {
+        Some(line) => Err(Status::NotBuilt { line }),
+        None => Ok(scenario),
     }
-    match with_items(alloc, scenario) {
+}
+
+/// What bytes of a file spell, with the traces that their lines name.
+fn load_bytes<S: Store>(
+    alloc: Global,
+    file: &str,
+    bytes: &[u8],
+    store: &mut S,
+) -> Result<Loaded, Status>
+    requires named { 1 ≤ length file.now }
+    requires fits { length file.now ≤ 255 }
+    requires there { HasFile (S.told store.old) file.now bytes.now }
+    ensures loads { (told : Option Files) (before : List StoreCall) →
+        AllStay told (S.told store.old) →
+        S.calls store.old ≡ before ++ read_of file.now false ∷ [] →
+        LoadsTo told file.now result before (S.calls store.new) }
+    ensures outside { Asks result (S.last store.new) (S.faults store.old) (S.faults store.new)
+        (S.told store.old) (S.told store.new) }
+{
+    let scenario = match scenario_in(alloc, bytes) {
+        Ok(scenario) => scenario,
+        Err(status) => return Err(status),
+    };
+    let named = match named_in(alloc, phases_of(&scenario)) {
+        Ok(named) => named,
+        Err(_) => return Err(Status::Memory),
+    };
+    let none = Totals {
+        items: named.packets,
+        bytes: 0,
+    };
+    let traces = match read_traces(alloc, file, bytes, &named.files, none, store) {
+        Ok(traces) => traces,
+        Err(status) => return Err(status),
+    };
+    match with_items(alloc, scenario, &traces) {
         Ok(loaded) => Ok(loaded),
         Err(_) => Err(Status::Memory),
     }
 }
 
-/// Reads the scenario of this name from the store, whose name has 1 to 255 bytes, and gives each
-/// lane its packets and its skips. It reads that file once, and no other one. The sessions of
+/// Reads the scenario of this name from the store, whose name has 1 to 255 bytes, and the traces that
+/// its lines name, each file once, and gives each lane its packets and its skips. The sessions of
 /// `serve` are not built yet.
 ///
 /// # Errors
 ///
-/// In their order: `StoreFault` exactly where the file cannot be read; `Scenario` with the first bad
-/// line; `NotBuilt` with the first line whose form is not built yet. `Memory` may come wherever
-/// memory is taken, and not in place of a fault.
+/// In their order: `StoreFault` exactly where the scenario cannot be read; `Scenario` with the first
+/// bad line; `NotBuilt` with the first line whose form is not built yet; and then for each trace, in
+/// the order of first naming, `StoreFault` where it cannot be read, and `Trace` where it is no
+/// accepted trace, or where with it the items of all lanes or the bytes of all traces are too many.
+/// `Memory` may come wherever memory is taken, and not in place of a fault.
 pub fn load<S: Store>(
     alloc: Global,
     file: &str,
@@ -113,11 +160,10 @@ pub fn load<S: Store>(
 ) -> Result<Loaded, Status>
     requires named { 1 ≤ length file.now }
     requires fits { length file.now ≤ 255 }
-    ensures loads { LoadsTo (S.told store.old) file.now result }
+    ensures loads { LoadsTo (S.told store.old) file.now result
+        (S.calls store.old) (S.calls store.new) }
     ensures absent { IfSome (S.told store.old) (λ files.
         files file.now ≡ None → result ≡ Err (status.StoreFault file.now)) }
-    ensures calls { S.calls store.new
-        ≡ S.calls store.old ++ read_of file.now (is_fault result) ∷ [] }
     ensures last { IfFault result (λ name. S.last store.new ≡ failed_read name) }
     ensures rose { IfFault result (λ _. Rose (S.faults store.old) (S.faults store.new)) }
     ensures good { is_fault result ≡ false → S.faults store.new ≡ S.faults store.old }
@@ -125,7 +171,7 @@ pub fn load<S: Store>(
     ensures count { S.faults store.old ≤ S.faults store.new }
 {
     match store.read(alloc, file) {
-        Ok(bytes) => load_bytes(alloc, bytes.as_slice()),
+        Ok(bytes) => load_bytes(alloc, file, bytes.as_slice(), store),
         Err(ReadError::Failed) => Err(Status::StoreFault {
             file: FileName::new(file),
         }),

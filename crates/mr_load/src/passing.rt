@@ -1,21 +1,30 @@
-//! One pass over the items of all lanes: each is a packet of its lane, or a skip.
+//! One pass over the lines of all lanes: each of their items is a packet of its lane, or a skip.
 
-ghost use Rattle.std.specs.Prelude.{◌≡◌, ℕ, ◌+◌, ◌<◌, ◌≤◌, [], ◌∷◌, length, OnOk, IfOk};
+ghost use Rattle.std.specs.Prelude.{◌≡◌, ℕ, ◌+◌, ◌<◌, ◌≤◌, Some, None, [], ◌∷◌, ◌++◌, length, OnOk, IfOk};
 ghost use Rattle.std.specs.List.{AllByRecursion};
-ghost use Rattle.mr_base.specs.Outside.{Files};
-ghost use Rattle.mr_load.specs.Dues.{IsBefore};
+ghost use Rattle.mr_base.specs.declared.limits.TheConstants.{MOST_ITEMS};
+ghost use Rattle.mr_base.specs.Heads.{cause_of};
+ghost use Rattle.mr_load.specs.Dues.{IsBefore, with_due};
+ghost use Rattle.mr_load.specs.Items.{all_items, contents_in};
+ghost use Rattle.mr_load.specs.Kept.{contents_kept};
 ghost use Rattle.mr_load.specs.Loading.{cause_number, items_in};
 ghost use Rattle.mr_load.specs.Passing.{EachFrom, BothFrom, IsFresh, IsOpen, IsOfLanes};
-ghost use Rattle.mr_load.specs.Passing.{Passes, PassesItem, HasPassed};
-ghost use Rattle.mr_scenario.specs.declared.scenario.Given.TheVariants.{Bytes};
+ghost use Rattle.mr_load.specs.Passing.{Passes, PassesRow, HasPassed};
+ghost use Rattle.mr_pcap.specs.Traces.{ip_part_of};
 
 use crate::lane::LanePackets;
 use crate::parts::items_of;
+use crate::reading::Traces;
+use crate::trace_name::TraceName;
 use mr_base::{HeadError, LaneNo};
 use mr_ip::cause_of;
 use mr_lines::Skip;
+use mr_pcap::{LinkType, Trace, ip_part};
 use mr_scenario::{Given, Item, Phase};
 use std::alloc::{AllocError, Global};
+
+/// The cause of a skip whose frame does not say IPv4; the causes of refused heads are above it.
+const NO_IPV4: u8 = 0;
 
 /// The number of a cause, 1 to 8.
 fn cause_number(cause: HeadError) -> u8
@@ -44,85 +53,183 @@ pub(crate) struct Passed {
     pub next: u32,
 }
 
-/// An item of a lane that is the bytes of one packet.
-fn pass_bytes(passed: &mut Passed, phase: u32, item: &Item, bytes: &[u8]) -> Result<(), AllocError>
-    requires given { item.now.given ≡ Bytes bytes.now }
-    requires first { 1 ≤ passed.old.next }
-    requires before { AllByRecursion (IsBefore passed.old.next phase) passed.old.packets.packets }
+/// An item that is a skip, with its cause.
+fn pass_skip(passed: &mut Passed, item: &Item, cause: u8) -> Result<(), AllocError>
     requires next { passed.old.next < 4294967295 }
-    ensures { OnOk result ((files : Files) →
-        PassesItem files phase item.now passed.old passed.new) }
+    ensures packets { OnOk result (passed.new.packets ≡ passed.old.packets) }
+    ensures skips { OnOk result (passed.new.skips.items ≡ passed.old.skips.items
+        ++ record { lane = item.now.lane; index = passed.old.next; cause = cause } ∷ []) }
+    ensures devs { OnOk result
+        (passed.new.devs.items ≡ passed.old.devs.items ++ item.now.dev ∷ []) }
+    ensures next { OnOk result (passed.new.next ≡ passed.old.next + 1) }
 {
-    match cause_of(bytes) {
-        None => passed.packets.push(phase, passed.next, item.dev, bytes)?,
-        Some(cause) => {
-            passed.skips.push(Skip {
-                lane: item.lane,
-                index: passed.next,
-                cause: cause_number(cause),
-            })?;
-            passed.devs.push(item.dev)?;
-        }
-    }
+    passed.skips.push(Skip {
+        lane: item.lane,
+        index: passed.next,
+        cause,
+    })?;
+    passed.devs.push(item.dev)?;
     passed.next += 1;
     Ok(())
 }
 
-/// An item of a lane.
-fn pass_item(passed: &mut Passed, phase: u32, item: &Item) -> Result<(), AllocError>
+/// An item that is a packet.
+fn pass_packet(passed: &mut Passed, phase: u32, item: &Item, bytes: &[u8]) -> Result<(), AllocError>
+    requires accepted { cause_of bytes.now ≡ None }
     requires first { 1 ≤ passed.old.next }
     requires before { AllByRecursion (IsBefore passed.old.next phase) passed.old.packets.packets }
     requires next { passed.old.next < 4294967295 }
-    ensures { OnOk result ((files : Files) →
-        PassesItem files phase item.now passed.old passed.new) }
+    ensures packets { OnOk result (passed.new.packets ≡ with_due passed.old.packets (record {
+      phase = phase;
+      index = passed.old.next;
+      dev = item.now.dev;
+      bytes = bytes.now;
+    })) }
+    ensures skips { OnOk result (passed.new.skips.items ≡ passed.old.skips.items) }
+    ensures devs { OnOk result (passed.new.devs.items ≡ passed.old.devs.items) }
+    ensures next { OnOk result (passed.new.next ≡ passed.old.next + 1) }
+{
+    passed.packets.push(phase, passed.next, item.dev, bytes)?;
+    passed.next += 1;
+    Ok(())
+}
+
+/// An item whose frame does not say IPv4.
+fn pass_other(passed: &mut Passed, phase: u32, item: &Item) -> Result<(), AllocError>
+    requires before { AllByRecursion (IsBefore passed.old.next phase) passed.old.packets.packets }
+    requires next { passed.old.next < 4294967295 }
+    ensures { OnOk result (PassesRow phase item.now (None ∷ []) passed.old passed.new) }
+{
+    pass_skip(passed, item, NO_IPV4)?;
+    Ok(())
+}
+
+/// An item that should begin with an IPv4 head.
+fn pass_bytes(passed: &mut Passed, phase: u32, item: &Item, bytes: &[u8]) -> Result<(), AllocError>
+    requires first { 1 ≤ passed.old.next }
+    requires before { AllByRecursion (IsBefore passed.old.next phase) passed.old.packets.packets }
+    requires next { passed.old.next < 4294967295 }
+    ensures { OnOk result (PassesRow phase item.now (Some bytes.now ∷ []) passed.old passed.new) }
+{
+    let Some(cause) = cause_of(bytes) else {
+        pass_packet(passed, phase, item, bytes)?;
+        return Ok(());
+    };
+    pass_skip(passed, item, cause_number(cause))?;
+    Ok(())
+}
+
+/// An item that is a frame of a trace.
+fn pass_frame(
+    passed: &mut Passed,
+    phase: u32,
+    item: &Item,
+    link: LinkType,
+    frame: &[u8],
+) -> Result<(), AllocError>
+    requires first { 1 ≤ passed.old.next }
+    requires before { AllByRecursion (IsBefore passed.old.next phase) passed.old.packets.packets }
+    requires next { passed.old.next < 4294967295 }
+    ensures { OnOk result
+        (PassesRow phase item.now (ip_part_of link frame.now ∷ []) passed.old passed.new) }
+{
+    let Some(bytes) = ip_part(link, frame) else {
+        pass_other(passed, phase, item)?;
+        return Ok(());
+    };
+    pass_bytes(passed, phase, item, bytes)?;
+    Ok(())
+}
+
+/// The items of a line that names a trace.
+fn pass_trace(passed: &mut Passed, phase: u32, item: &Item, trace: &Trace) -> Result<(), AllocError>
+    requires first { 1 ≤ passed.old.next }
+    requires before { AllByRecursion (IsBefore passed.old.next phase) passed.old.packets.packets }
+    requires next { passed.old.next + length (contents_in trace.now) ≤ 4294967295 }
+    ensures { OnOk result (PassesRow phase item.now (contents_in trace.now) passed.old passed.new) }
+{
+    for i in 0..trace.len() {
+        let Some(record) = trace.record(i) else {
+            unreachable!()
+        };
+        pass_frame(passed, phase, item, trace.link(), record.bytes)?;
+    }
+    Ok(())
+}
+
+/// The items of a line of a lane.
+fn pass_line(
+    passed: &mut Passed,
+    phase: u32,
+    item: &Item,
+    traces: &Traces,
+) -> Result<(), AllocError>
+    requires first { 1 ≤ passed.old.next }
+    requires before { AllByRecursion (IsBefore passed.old.next phase) passed.old.packets.packets }
+    requires next { passed.old.next + length (contents_kept traces.now.entries item.now.given)
+        ≤ 4294967295 }
+    ensures { OnOk result (PassesRow phase item.now
+        (contents_kept traces.now.entries item.now.given) passed.old passed.new) }
 {
     match &item.given {
         Given::Bytes(bytes) => pass_bytes(passed, phase, item, bytes.0.as_slice()),
-        Given::Trace(_) => {
-            passed.next += 1;
-            Ok(())
-        }
+        Given::Trace(file) => match traces.get(&TraceName::new(file.as_str())) {
+            Some(trace) => pass_trace(passed, phase, item, trace),
+            None => Ok(()),
+        },
     }
 }
 
-/// An item of one of the lanes.
-fn pass_one(lanes: &mut Vec<Passed>, phase: u32, item: &Item) -> Result<(), AllocError>
+/// A line of one of the lanes.
+fn pass_one(
+    lanes: &mut Vec<Passed>,
+    phase: u32,
+    item: &Item,
+    traces: &Traces,
+) -> Result<(), AllocError>
     requires lane { IsOfLanes (length lanes.old.items) item.now }
-    requires ready { EachFrom (IsOpen phase 1) 1 lanes.old.items }
-    ensures { OnOk result ((files : Files) →
-        BothFrom (Passes files phase (item.now ∷ [])) 1 lanes.old.items lanes.new.items) }
+    requires ready { EachFrom (IsOpen phase
+        (length (contents_kept traces.now.entries item.now.given))) 1 lanes.old.items }
+    ensures { OnOk result (BothFrom (Passes (contents_kept traces.now.entries) phase
+        (item.now ∷ [])) 1 lanes.old.items lanes.new.items) }
 {
     let place = item.lane.0 as usize - 1;
-    pass_item(&mut lanes[place], phase, item)?;
+    pass_line(&mut lanes[place], phase, item, traces)?;
     Ok(())
 }
 
-/// The items of a phase.
-fn pass_items(lanes: &mut Vec<Passed>, phase: u32, items: &[Item]) -> Result<(), AllocError>
+/// The lines of a phase.
+fn pass_items(
+    lanes: &mut Vec<Passed>,
+    phase: u32,
+    items: &[Item],
+    traces: &Traces,
+) -> Result<(), AllocError>
     requires items { AllByRecursion (IsOfLanes (length lanes.old.items)) items.now }
-    requires ready { EachFrom (IsOpen phase (length items.now)) 1 lanes.old.items }
-    ensures { OnOk result ((files : Files) →
-        BothFrom (Passes files phase items.now) 1 lanes.old.items lanes.new.items) }
+    requires ready { EachFrom (IsOpen phase
+        (all_items (contents_kept traces.now.entries) items.now)) 1 lanes.old.items }
+    ensures { OnOk result (BothFrom (Passes (contents_kept traces.now.entries) phase items.now) 1
+        lanes.old.items lanes.new.items) }
 {
     for item in items {
-        pass_one(lanes, phase, item)?;
+        pass_one(lanes, phase, item, traces)?;
     }
     Ok(())
 }
 
-/// The items of all phases.
-fn pass_phases(lanes: &mut Vec<Passed>, phases: &[Phase]) -> Result<(), AllocError>
+/// The lines of all phases.
+fn pass_phases(lanes: &mut Vec<Passed>, phases: &[Phase], traces: &Traces) -> Result<(), AllocError>
     requires fresh { EachFrom IsFresh 1 lanes.old.items }
     requires lanes { AllByRecursion (λ p.
         AllByRecursion (IsOfLanes (length lanes.old.items)) p.items) phases.now }
-    requires items { length (items_in phases.now) ≤ 1048576 }
+    requires items { all_items (contents_kept traces.now.entries) (items_in phases.now) ≤ MOST_ITEMS }
     requires phases { length phases.now ≤ 1000 }
-    ensures passed { OnOk result ((files : Files) →
-        EachFrom (HasPassed files phases.now) 1 lanes.new.items) }
+    ensures passed { OnOk result (EachFrom
+        (HasPassed (contents_kept traces.now.entries) phases.now) 1 lanes.new.items) }
     ensures count { OnOk result (length lanes.new.items ≡ length lanes.old.items) }
 {
     for i in 0..phases.len() {
-        pass_items(lanes, i as u32, items_of(&phases[i]))?;
+        pass_items(lanes, i as u32, items_of(&phases[i]), traces)?;
     }
     Ok(())
 }
@@ -144,20 +251,22 @@ fn fresh_lanes(alloc: Global, lanes: u32) -> Result<Vec<Passed>, AllocError>
     Ok(fresh)
 }
 
-/// What the items of these phases give to each of so many lanes.
+/// What the lines of these phases give to each of so many lanes, where these are the traces that they
+/// name.
 pub(crate) fn pass_lanes(
     alloc: Global,
     lanes: u32,
     phases: &[Phase],
+    traces: &Traces,
 ) -> Result<Vec<Passed>, AllocError>
     requires lanes { AllByRecursion (λ p. AllByRecursion (IsOfLanes lanes) p.items) phases.now }
-    requires items { length (items_in phases.now) ≤ 1048576 }
+    requires items { all_items (contents_kept traces.now.entries) (items_in phases.now) ≤ MOST_ITEMS }
     requires phases { length phases.now ≤ 1000 }
-    ensures passed { IfOk result (λ v. (files : Files) →
-        EachFrom (HasPassed files phases.now) 1 v.items) }
+    ensures passed { IfOk result (λ v. EachFrom
+        (HasPassed (contents_kept traces.now.entries) phases.now) 1 v.items) }
     ensures count { IfOk result (λ v. length v.items ≡ lanes) }
 {
     let mut passed = fresh_lanes(alloc, lanes)?;
-    pass_phases(&mut passed, phases)?;
+    pass_phases(&mut passed, phases, traces)?;
     Ok(passed)
 }

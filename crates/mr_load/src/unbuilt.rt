@@ -2,12 +2,12 @@
 
 ghost use Rattle.std.specs.Prelude.{◌≡◌, flat_map};
 ghost use Rattle.std.specs.List.{list_any};
-ghost use Rattle.mr_load.specs.Unbuilt.{is_built_script, is_trace, unbuilt_item, unbuilt_script, lesser, least_from, least_with, least_in, begins_smc, smc_from, smc_line, first_unbuilt};
+ghost use Rattle.mr_load.specs.Unbuilt.{is_built_script, unbuilt_script, lesser, least_from, least_with, least_in, begins_smc, smc_from, smc_line, first_unbuilt};
 ghost use Rattle.mr_scenario.specs.PhaseLines.{is_smc};
 ghost use Rattle.mr_words.specs.Words.{lines_of, words_of};
 
-use crate::parts::{daemons_of, items_of, lines_of, phases_of};
-use mr_scenario::{DaemonKind, Given, Item, Phase, Scenario, Script, ScriptLine};
+use crate::parts::{daemons_of, lines_of, phases_of};
+use mr_scenario::{DaemonKind, Phase, Scenario, Script, ScriptLine};
 use mr_words::{next_word, split_line, trimmed};
 
 fn is_built_script(script: &Script) -> bool
@@ -21,15 +21,6 @@ fn is_built_script(script: &Script) -> bool
     }
 }
 
-fn is_trace(given: &Given) -> bool
-    ensures { result ≡ is_trace given.now }
-{
-    match given {
-        Given::Bytes(_) => false,
-        Given::Trace(_) => true,
-    }
-}
-
 /// The lesser of the two, where there are two.
 fn lesser(first: Option<u32>, n: u32) -> Option<u32>
     ensures { result ≡ lesser first n }
@@ -37,17 +28,6 @@ fn lesser(first: Option<u32>, n: u32) -> Option<u32>
     match first {
         None => Some(n),
         Some(m) => Some(m.min(n)),
-    }
-}
-
-/// This line or a former one, where the item's form is not built.
-fn with_item(first: Option<u32>, item: &Item) -> Option<u32>
-    ensures { result ≡ least_from first (unbuilt_item item.now) }
-{
-    if is_trace(&item.given) {
-        lesser(first, item.line)
-    } else {
-        first
     }
 }
 
@@ -59,16 +39,6 @@ fn with_script(first: Option<u32>, line: &ScriptLine) -> Option<u32>
     } else {
         lesser(first, line.line)
     }
-}
-
-fn with_items(first: Option<u32>, items: &[Item]) -> Option<u32>
-    ensures { result ≡ least_from first (flat_map unbuilt_item items.now) }
-{
-    let mut least = first;
-    for item in items {
-        least = with_item(least, item);
-    }
-    least
 }
 
 fn with_lines(first: Option<u32>, lines: &[ScriptLine]) -> Option<u32>
@@ -84,8 +54,7 @@ fn with_lines(first: Option<u32>, lines: &[ScriptLine]) -> Option<u32>
 fn with_phase(first: Option<u32>, phase: &Phase) -> Option<u32>
     ensures { result ≡ least_with first phase.now }
 {
-    let least = with_items(first, items_of(phase));
-    with_lines(least, lines_of(phase))
+    with_lines(first, lines_of(phase))
 }
 
 fn in_phases(phases: &[Phase]) -> Option<u32>
