@@ -10,4 +10,6 @@ mod tests_lanes;
 #[cfg(test)]
 mod tests_refused;
 #[cfg(test)]
+mod tests_traces;
+#[cfg(test)]
 mod waiting;

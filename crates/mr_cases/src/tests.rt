@@ -21,7 +21,7 @@ pub fn store_of(alloc: Global, text: &str) -> Result<MemStore, AllocError> {
 }
 
 /// A run of words over a store and a sink, with a door that has no links and a clock that stands still.
-fn ran<R: AllocGlobal + Wait + Threads + Sync, S: Store, K: Sink>(
+pub fn ran<R: AllocGlobal + Wait + Threads + Sync, S: Store, K: Sink>(
     rt: &R,
     words: &str,
     store: &mut S,

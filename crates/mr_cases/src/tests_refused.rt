@@ -77,14 +77,10 @@ fn lines_not_built(rt: HostRuntime) -> Result<(), Fail> {
             "scenario 1\ndaemon plain\nsmc a.conf\nphase\ndaemon 1 recv\ndaemon 2 start\ndaemon 2 poll 3\ndaemon 2 tick 5\ndaemon 2 smc show\n",
             3,
         ),
+        // Before traces that are not there, and before want of room.
         (
-            "scenario 1\ndevice a 10.0.0.1\nphase\nlane 1 trace a in.pcap\n",
+            "scenario 1\nlimit control 1\ndevice a 10.0.0.1\nsmc a.conf\nphase\nlane 1 trace a in.pcap\ndaemon 1 start\n",
             4,
-        ),
-        // The first of several, before want of room.
-        (
-            "scenario 1\nlimit control 1\ndevice a 10.0.0.1\ndaemon plain\nphase\ndaemon 1 init\ndaemon 1 init\nphase\nlane 1 trace a in.pcap\nlane 1 trace a in.pcap\n",
-            9,
         ),
     ];
     for (text, line) in cases {

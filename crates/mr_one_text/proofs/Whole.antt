@@ -57,4 +57,4 @@ one_within files s h k t u fits few m n legal legal' e =
     turns_tell files s h k m n legal legal' (turns_same h k mine other words)
 
 pub one_history : OneHistory
-one_history files s h k t u fits m n legal legal' e = one_within files s h k t u fits (room_fits files s fits) m n legal legal' e
+one_history files s h k t u read m n legal legal' e = one_within files s h k t u read.fits (room_fits files s read) m n legal legal' e

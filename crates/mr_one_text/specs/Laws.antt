@@ -4,7 +4,9 @@ use Rattle.mr_base.specs.Outside.{Files}
 use Rattle.mr_lines.specs.Fit.{Fits64}
 use Rattle.mr_lines.specs.declared.skip.Skip.{Skip}
 use Rattle.mr_lines.specs.declared.tail.Tail.{Tail}
-use Rattle.mr_load.specs.Loading.{skips_of, run_limits}
+use Rattle.mr_base.specs.declared.limits.TheConstants.{MOST_ITEMS}
+use Rattle.mr_load.specs.Items.{all_items, contents_of}
+use Rattle.mr_load.specs.Loading.{items_in, skips_of, run_limits}
 use Rattle.mr_load.specs.Made.{Made}
 use Rattle.mr_model.specs.declared.entry.Entry.{Entry}
 use Rattle.mr_model.specs.Legal.{IsLegal}
@@ -39,17 +41,22 @@ TextTells = (skips : List Skip) (h k : List Entry) (t u : Tail) → TurnsFit h �
 abbrev pub LegalHasRoom : Type 0
 LegalHasRoom = (limits : Limits) (h : List Entry) → IsLegal limits h → length h ≤ room limits
 
--- A scenario that was read leaves room for so few entries that 64 bits number them.
-abbrev pub RoomFits : Type 0
-RoomFits = (files : Files) (s : Scenario) → Fits s → Fits64 (room (run_limits files s))
+-- A scenario that was loaded with these files: its lines give no more items than a scenario may have.
+pub record WasLoaded (files : Files) (s : Scenario) : Type 0 where
+  pub fits : Fits s
+  pub items : all_items (contents_of files) (items_in s.phases) ≤ MOST_ITEMS
 
--- Two legal histories of one scenario that was read are the same, or have different texts, whatever stands behind their
+-- A scenario that was loaded leaves room for so few entries that 64 bits number them.
+abbrev pub RoomFits : Type 0
+RoomFits = (files : Files) (s : Scenario) → WasLoaded files s → Fits64 (room (run_limits files s))
+
+-- Two legal histories of one scenario that was loaded are the same, or have different texts, whatever stands behind their
 -- entries. Nothing is asked of their entries alone: they need not fit the grammar.
 abbrev pub OneHistory : Type 0
-OneHistory = (files : Files) (s : Scenario) (h k : List Entry) (t u : Tail) → Fits s → Made files s h → Made files s k
+OneHistory = (files : Files) (s : Scenario) (h k : List Entry) (t u : Tail) → WasLoaded files s → Made files s h → Made files s k
     → IsLegal (run_limits files s) h → IsLegal (run_limits files s) k → text (skips_of files s) h t ≡ text (skips_of files s) k u → h ≡ k
 
--- Two legal histories of one scenario that was read are the same, or are written as different texts.
+-- Two legal histories of one scenario that was loaded are the same, or are written as different texts.
 abbrev pub OneWritten : Type 0
-OneWritten = (files : Files) (s : Scenario) (h k : List Entry) → Fits s → Made files s h → Made files s k
+OneWritten = (files : Files) (s : Scenario) (h k : List Entry) → WasLoaded files s → Made files s h → Made files s k
     → IsLegal (run_limits files s) h → IsLegal (run_limits files s) k → history_text files s h ≡ history_text files s k → h ≡ k

@@ -1,5 +1,5 @@
 -- Which packets a lane is to send in a phase.
-use Rattle.std.proofs.Common.{◌≡◌, ◌∙◌, ℕ, zero, suc, ◌+◌, ◌≤◌, ◌<◌, ◌==◌, Bool, true, false, is_none, cond, Some, List, [], ◌∷◌, ◌++◌, length, map, take, refl, sym, ap, arith, append-nil, append_assoc, subst}
+use Rattle.std.proofs.Common.{◌≡◌, ◌∙◌, ℕ, zero, suc, ◌+◌, ◌≤◌, ◌<◌, ◌==◌, Bool, true, false, is_none, cond, Some, None, List, [], ◌∷◌, ◌++◌, length, map, take, refl, sym, ap, arith, append-nil, append_assoc, subst}
 use Rattle.std.proofs.lemmas.List.{map-append}
 use Rattle.std.proofs.lemmas.List.Elements.{filter-append}
 use Rattle.std.specs.List.{AllByRecursion, filter}
@@ -7,12 +7,12 @@ use Rattle.std.specs.Prelude.{if◌then◌else◌, slice_get}
 use Rattle.mr_base.specs.Heads.{cause_of}
 use Rattle.mr_base.specs.Outside.{Files}
 use Rattle.mr_load.specs.Dues.{Due, due_of, dues_among, dues_in, dues_from, sent_of}
+use Rattle.mr_load.specs.Items.{Content, contents_of}
 use Rattle.mr_load.specs.Loading.{items_in}
-use Rattle.mr_load.specs.Made.{Sent, items_of, packet_of, packets_from, to_send}
+use Rattle.mr_load.specs.Made.{items_of, to_send}
 use Rattle.mr_load.proofs.LawDues.{dues_later, dues_of_phase, dues_sent}
+use Rattle.mr_load.proofs.Rows.{numbered_all}
 use Rattle.mr_replay.specs.Lanes.{due_in}
-use Rattle.mr_scenario.specs.declared.scenario.Given.{Given}
-use Rattle.mr_scenario.specs.declared.scenario.Given.TheVariants.{Bytes, Trace}
 use Rattle.mr_scenario.specs.declared.scenario.Item.{Item}
 use Rattle.mr_scenario.specs.declared.scenario.Phase.{Phase}
 
@@ -21,25 +21,17 @@ all_append P [] ys a b = b
 all_append P (x ∷ xs) ys a b = (a.0, all_append P xs ys a.1 b)
 
 -- what holds of a packet of each item of a lane
-item_all : (P : Due → Type 0) (files : Files) (k n dev : ℕ) (g : Given) → ((bs : List ℕ) → P (record { phase = k; index = n; dev = dev; bytes = bs })) → AllByRecursion P (due_of files k n dev g)
-item_all P files k n dev (Bytes bs) its = either (is_none (cause_of bs))
+content_all : (P : Due → Type 0) (k : ℕ) (i : Item) (n : ℕ) (c : Content) → ((bs : List ℕ) → P (record { phase = k; index = n; dev = i.dev; bytes = bs })) → AllByRecursion P (due_of k i n c)
+content_all P k i n None its = tt
+content_all P k i n (Some bs) its = either (is_none (cause_of bs))
   where
-    either : (b : Bool) → AllByRecursion P (if b then record { phase = k; index = n; dev = dev; bytes = bs } ∷ [] else [])
+    either : (b : Bool) → AllByRecursion P (if b then record { phase = k; index = n; dev = i.dev; bytes = bs } ∷ [] else [])
     either true = (its bs, tt)
     either false = tt
-item_all P files k n dev (Trace file) its = tt
 
 pub among_all : (P : Due → Type 0) (Q : Item → Type 0) (files : Files) (lane k n : ℕ) (is : List Item) → ((i : Item) (m : ℕ) (bs : List ℕ) → Q i → P (record { phase = k; index = m; dev = i.dev; bytes = bs }))
     → AllByRecursion Q is → AllByRecursion P (dues_among files lane k n is)
-among_all P Q files lane k n [] its a = tt
-among_all P Q files lane k n (i ∷ is) its a =
-    either (i.lane.0 == lane) (all_append P (due_of files k n i.dev i.given) (dues_among files lane k (n + 1) is) (item_all P files k n i.dev i.given (λ bs. its i n bs a.0)) (among_all P Q files lane k (n + 1) is its a.1))
-    (among_all P Q files lane k n is its a.1)
-  where
-    either : (b : Bool) → AllByRecursion P (due_of files k n i.dev i.given ++ dues_among files lane k (n + 1) is) → AllByRecursion P (dues_among files lane k n is)
-        → AllByRecursion P (if b then due_of files k n i.dev i.given ++ dues_among files lane k (n + 1) is else dues_among files lane k n is)
-    either true x y = x
-    either false x y = y
+among_all P Q files lane k n is its a = numbered_all P Q (due_of k) (λ i q m c. content_all P k i m c (λ bs. its i m bs q)) (contents_of files) lane n is a
 
 all_due : (k : ℕ) (ds : List Due) → AllByRecursion (λ d. d.phase ≡ k) ds → due_in k ds ≡ ds
 all_due k [] a = refl

@@ -6,7 +6,6 @@ use Rattle.std.specs.Prelude.{slice_index}
 use Rattle.mr_base.specs.Outside.{Files}
 use Rattle.mr_callers.specs.Joining.{MadeSoFar}
 use Rattle.mr_callers.proofs.Called.{run_callers}
-use Rattle.mr_history.specs.Fits.{FitsLimits}
 use Rattle.mr_load.specs.Callers.{from_on}
 use Rattle.mr_load.specs.Dues.{Due, LaneValue, dues_from, lane_of, sent_of}
 use Rattle.mr_load.specs.Loading.{items_in, packets_in, run_limits}
@@ -110,7 +109,7 @@ can_run files file l given i room =
     let s : Scenario = l.scenario in
     record {
       fits = i.fits;
-      limits = subst FitsLimits (sym i.limits) (limits_fit files s i.fits);
+      limits = limits_fit files l i;
       lines = subst (λ (x : Limits). AllByRecursion (λ p. AllByRecursion (IsLineOf x) p.script) s.phases) (sym i.limits) (all_lines (run_limits files s) s callers.daemons s.phases i.fits.script (loaded_plain files file s given));
       room = omega (arith, room, ap (λ (x : Limits). x.controls) i.limits);
       phases = ap (λ (x : Limits). x.phases) i.limits ∙ i.fits.phases;

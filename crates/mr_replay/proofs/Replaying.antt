@@ -1,5 +1,5 @@
 -- What the file that is asked for comes to.
-use Rattle.std.proofs.Common.{◌≡◌, ◌≤◌, ℕ, Bool, true, false, Option, Some, None, Result, Ok, Err, List, refl, sym, ap, ◌∙◌, arith, subst}
+use Rattle.std.proofs.Common.{◌≡◌, ◌≤◌, ℕ, Bool, true, false, Option, Some, None, Result, Ok, Err, List, ◌++◌, refl, sym, ap, ◌∙◌, arith, subst}
 use Rattle.std.proofs.lemmas.Bool.Decides.{nat_tests}
 use Rattle.std.specs.Prelude.{nat_le}
 use Rattle.mr_base.specs.Outside.{Files}
@@ -8,7 +8,9 @@ use Rattle.mr_load.specs.Told.{IsTold}
 use Rattle.mr_kernel.specs.Values.{KernelValue}
 use Rattle.mr_lines.specs.declared.skip.Skip.{Skip}
 use Rattle.mr_load.specs.Loading.{run_limits}
-use Rattle.mr_load.specs.Loads.{IsLoaded}
+use Rattle.mr_base.specs.declared.store_call.StoreCall.{StoreCall}
+use Rattle.mr_load.specs.Faults.{cuts, fails, is_cut, is_fault, reads_of}
+use Rattle.mr_load.specs.Loads.{IsLoaded, LoadsTo}
 use Rattle.mr_load.specs.Made.{Made}
 use Rattle.mr_load.specs.declared.loading.Loaded.{Loaded}
 use Rattle.mr_model.specs.Ending.{ending}
@@ -19,8 +21,9 @@ use Rattle.mr_scenario.specs.declared.scenario.Named.{Named}
 use Rattle.mr_text.specs.Text.{text}
 use Rattle.mr_load.specs.Unbuilt.{first_unbuilt}
 use Rattle.mr_load.specs.declared.status.Status.{Status}
-use Rattle.mr_replay.specs.Endings.{file_asked, RunsTo, Replays, PlaysText}
+use Rattle.mr_replay.specs.Endings.{file_asked, ReadsFor, RunsTo, Replays, PlaysText}
 use Rattle.mr_replay.specs.Outcomes.{controls_due}
+use Rattle.mr_replay.proofs.Plain.{loaded_scenario}
 use Rattle.mr_scenario.specs.Spelled.{spelled}
 use Rattle.mr_scenario.specs.declared.scenario.Scenario.{Scenario}
 use Rattle.mr_scenario.specs.declared.stop.ScenarioError.{ScenarioError}
@@ -48,7 +51,7 @@ scenario_spelled bytes s e =
 -- what is loaded of a file is what its bytes spell
 loaded_spelled : (files : Files) (file : List ℕ) (s : Scenario) → loaded files file ≡ Ok s → (bytes : List ℕ) × (files file ≡ Some bytes) × (spelled bytes ≡ Ok s)
 loaded_spelled files file s e =
-    let b = bind_ok (if_there file (files file)) scenario_of s e in
+    let b = bind_ok (if_there file (files file)) scenario_of s (loaded_scenario files file s e) in
     (b.0, there_ok file (files file) b.0 b.1, scenario_spelled b.0 s b.2)
 
 runs_to : (files : Files) (file written : List ℕ) (s : Scenario) → loaded files file ≡ Ok s → controls_due s ≤ s.limits.controls → PlaysText files s written → RunsTo files file written
@@ -94,3 +97,25 @@ plays files l k written skips devices i limits legal made same_skips same_device
       made = made;
       text_is = is ∙ rw (same_skips, i.skips, same_devices, run) refl;
     }
+
+-- what loading read is what the run read
+pub loads_read : (told : Option Files) (file : List ℕ) (r : Result Loaded Status) (s : Status) (old new : List StoreCall) → LoadsTo told file r old new → (cuts s ≡ false → is_cut r ≡ false) → is_fault r ≡ fails s
+    → ReadsFor told file s old new
+loads_read told file r s old new l whole same = record {
+  files = l.files;
+  told_is = l.told_is;
+  reads = record {
+    read = l.reads.read;
+    left = l.reads.left;
+    order = l.reads.order;
+    all = λ e. l.reads.all (whole e);
+    calls = l.reads.calls ∙ ap (λ (b : Bool). old ++ reads_of l.reads.read b) same;
+  };
+}
+
+some_same : (a b : List ℕ) → ◌≡◌ {A = Option (List ℕ)} (Some a) (Some b) → a ≡ b
+some_same a b e = cc
+
+pub asked_reads : (words : List (List ℕ)) (told : Option Files) (asked : List ℕ) (s : Status) (old new : List StoreCall) → file_asked words ≡ Some asked → ReadsFor told asked s old new
+    → (file : List ℕ) → file_asked words ≡ Some file → ReadsFor told file s old new
+asked_reads words told asked s old new e r file f = subst (λ (name : List ℕ). ReadsFor told name s old new) (some_same asked file (sym e ∙ f)) r

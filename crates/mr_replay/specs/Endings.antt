@@ -6,9 +6,12 @@ use Rattle.mr_model.specs.Legal.{IsLegal}
 use Rattle.mr_scenario.specs.declared.scenario.Scenario.{Scenario}
 use Rattle.mr_load.specs.declared.status.Status.{Status}
 use Rattle.mr_load.specs.declared.status.Status.TheVariants as status
+use Rattle.mr_load.specs.declared.status.TraceCause.{TraceCause}
 use Rattle.mr_scenario.specs.declared.stop.Kind.{Kind}
 use Rattle.mr_scenario.specs.Spelled.{spelled}
 use Rattle.mr_replay.specs.Outcomes.{controls_due, outcome_of}
+use Rattle.mr_base.specs.declared.store_call.StoreCall.{StoreCall}
+use Rattle.mr_load.specs.Faults.{HasRead, cuts, fails}
 use Rattle.mr_load.specs.Refusals.{loaded}
 use Rattle.mr_load.specs.Loading.{run_limits}
 use Rattle.mr_load.specs.Made.{Made}
@@ -73,15 +76,21 @@ is_silent status.Good = false
 is_silent status.SinkFault = false
 is_silent _ = true
 
--- whether a file could not be read
-abbrev pub is_store_fault : Status → Bool
-is_store_fault (status.StoreFault name) = true
-is_store_fault _ = false
+-- The store's calls are the reads of the scenario and of the traces that it names, each once and in their order: all of them, or, where a
+-- read failed or memory ran out, the first of them. The last read failed exactly with StoreFault.
+pub record ReadsFor (told : Option Files) (file : List ℕ) (s : Status) (old new : List StoreCall) : Type 0 where
+  pub files : Files
+  pub told_is : IsTold told files
+  pub reads : HasRead (files_read files file) (cuts s) (fails s) old new
 
 -- a fact for each status
 abbrev pub IfScenario : Status → (ℕ → Kind → List ℕ → Type 0) → Type 0
 IfScenario (status.Scenario line k text) P = P line k text
 IfScenario _ P = Unit {0}
+
+abbrev pub IfTrace : Status → (List ℕ → TraceCause → Type 0) → Type 0
+IfTrace (status.Trace file cause) P = P file cause
+IfTrace _ P = Unit {0}
 
 abbrev pub IfNotBuilt : Status → (ℕ → Type 0) → Type 0
 IfNotBuilt (status.NotBuilt line) P = P line

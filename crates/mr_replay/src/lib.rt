@@ -11,5 +11,5 @@ mod tests;
 mod top;
 mod writing;
 
-pub use mr_load::{Loaded, Status, load};
+pub use mr_load::{Loaded, MOST_TRACE_BYTES, Status, TraceCause, load};
 pub use top::run;

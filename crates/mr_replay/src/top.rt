@@ -1,9 +1,12 @@
 //! The top call.
 
-ghost use Rattle.std.specs.Prelude.{ℕ, List, [], ◌∷◌, ◌++◌, ◌≡◌, ◌⊎◌, ◌↔◌, ◌≤◌, length, map, string_bytes, MatchOption, IfOk, IfSome, None, Some, true};
+ghost use Rattle.std.specs.Prelude.{ℕ, List, ◌≡◌, ◌⊎◌, ◌↔◌, ◌≤◌, length, map, string_bytes};
+ghost use Rattle.std.specs.Prelude.{MatchOption, IfOk, IfSome, None, Some, true};
 ghost use Rattle.mr_base.specs.Outside.{Files, Rose, AllStay, Takes, TakesPrefix};
-ghost use Rattle.mr_replay.specs.Endings.{is_file_word, file_asked, Replays, ComesTo, IsToRead, PlaysText, is_silent, IfScenario, IfNotBuilt, IfStoreFault, is_store_fault, EndsBy};
-ghost use Rattle.mr_load.specs.Faults.{failed_read, read_of};
+ghost use Rattle.mr_replay.specs.Endings.{is_file_word, file_asked, Replays, ComesTo, IsToRead};
+ghost use Rattle.mr_replay.specs.Endings.{PlaysText, is_silent, ReadsFor, EndsBy};
+ghost use Rattle.mr_replay.specs.Endings.{IfScenario, IfTrace, IfNotBuilt, IfStoreFault};
+ghost use Rattle.mr_load.specs.Faults.{failed_read};
 ghost use Rattle.mr_load.specs.Loads.{IsLoaded};
 ghost use Rattle.mr_replay.specs.Outcomes.{outcome_of};
 ghost use Rattle.mr_replay.specs.Running.{CanRun};
@@ -29,7 +32,8 @@ fn is_file_word(word: &str) -> bool
 
 /// The file that the words ask to replay.
 fn file_asked(words: &[String]) -> Option<&str>
-    ensures asked { MatchOption result (file_asked (map string_bytes words.now) ≡ None) (λ w. file_asked (map string_bytes words.now) ≡ Some w.now) }
+    ensures asked { MatchOption result (file_asked (map string_bytes words.now) ≡ None)
+        (λ w. file_asked (map string_bytes words.now) ≡ Some w.now) }
     ensures some { IfSome result (λ w. 1 ≤ length w.now) }
     ensures most { IfSome result (λ w. length w.now ≤ 255) }
 {
@@ -69,7 +73,8 @@ fn history_of(alloc: Global, loaded: &Loaded) -> Result<Vec<u8>, Memory>
 fn put<K: Sink>(out: &mut K, text: &[u8]) -> Status
     ensures good { result ≡ status.Good → Takes (K.taken out.old) text.now (K.taken out.new) }
     ensures fault { result ≡ status.SinkFault → Rose (K.faults out.old) (K.faults out.new) }
-    ensures cut { result ≡ status.SinkFault → TakesPrefix (K.taken out.old) text.now (K.taken out.new) }
+    ensures cut { result ≡ status.SinkFault →
+        TakesPrefix (K.taken out.old) text.now (K.taken out.new) }
     ensures only { (result ≡ status.Good) ⊎ (result ≡ status.SinkFault) }
 {
     match out.put(text) {
@@ -78,12 +83,16 @@ fn put<K: Sink>(out: &mut K, text: &[u8]) -> Status
     }
 }
 
-/// Runs the command that `words` (those after the program's name) spell: `replay SCENARIO` reads the scenario of that
-/// name from the store, runs it and writes the text of its history to `out`. Other words are `Usage`.
+/// Runs the command that `words` (those after the program's name) spell: `replay SCENARIO` reads the
+/// scenario of that name from the store, runs it and writes the text of its history to `out`. Other
+/// words are `Usage`.
 ///
-/// The statuses in their order: `Usage`; those of loading, which are `StoreFault`, where the scenario cannot be read,
-/// `Scenario` with its first bad line, and `NotBuilt` with the first line whose form is not built yet; `ControlFull`, where
-/// the daemons' lines are more than the scenario's limit; `SinkFault`. `Memory` may come wherever memory is taken. With any but `Good` and `SinkFault` nothing is written.
+/// The statuses in their order: `Usage`; those of loading, which are `StoreFault`, where the scenario
+/// cannot be read, `Scenario` with its first bad line, `NotBuilt` with the first line whose form is
+/// not built yet, and then for each trace that lines name, in the order of first naming,
+/// `StoreFault` and `Trace`; `ControlFull`, where the daemons' lines are more than the scenario's
+/// limit; `SinkFault`. `Memory` may come wherever memory is taken. With any but `Good` and
+/// `SinkFault` nothing is written.
 ///
 /// The runtime, the door, the clock and the gate are not asked yet.
 pub fn run<R: Wait + Threads + Sync, S: Store, K: Sink, D: Door, C: Clock, G: Gate + Sync>(
@@ -98,21 +107,33 @@ pub fn run<R: Wait + Threads + Sync, S: Store, K: Sink, D: Door, C: Clock, G: Ga
 ) -> Status
     // The words are not `replay SCENARIO`, with a file word.
     ensures usage { (result ≡ status.Usage) ↔ (file_asked (map string_bytes words.now) ≡ None) }
-    // The sink took the text of a legal history of the scenario that the file spells, with what that asks in its order.
-    ensures good { result ≡ status.Good → Replays (map string_bytes words.now) (S.told store.old) (λ text. Takes (K.taken out.old) text (K.taken out.new)) }
+    // The sink took the text of a legal history of the scenario that the file spells, with what that
+    // asks in its order.
+    ensures good { result ≡ status.Good →
+        Replays (map string_bytes words.now) (S.told store.old)
+        (λ text. Takes (K.taken out.old) text (K.taken out.new)) }
     // The first bad line of the file, what is wrong with it, and how it begins.
     ensures scenario { IfScenario result (λ line kind text.
         ComesTo (map string_bytes words.now) (S.told store.old) (status.Scenario line kind text)) }
+    // The first trace that is no accepted one, or is too much with those before it, and why.
+    ensures trace { IfTrace result (λ file cause.
+        ComesTo (map string_bytes words.now) (S.told store.old) (status.Trace file cause)) }
     // The first line of the file whose form is not built.
-    ensures not_built { IfNotBuilt result (λ line. ComesTo (map string_bytes words.now) (S.told store.old) (status.NotBuilt line)) }
+    ensures not_built { IfNotBuilt result (λ line.
+        ComesTo (map string_bytes words.now) (S.told store.old) (status.NotBuilt line)) }
     // The lines of the daemons are more than the limit on control entries.
-    ensures control_full { result ≡ status.ControlFull → ComesTo (map string_bytes words.now) (S.told store.old) status.ControlFull }
+    ensures control_full { result ≡ status.ControlFull →
+        ComesTo (map string_bytes words.now) (S.told store.old) status.ControlFull }
     // A file that was to be read, whose read failed, and the store's count rose.
-    ensures store_fault { IfStoreFault result (λ name. IsToRead (map string_bytes words.now) (S.told store.old) name) }
+    ensures store_fault { IfStoreFault result (λ name.
+        IsToRead (map string_bytes words.now) (S.told store.old) name) }
     ensures store_last { IfStoreFault result (λ name. S.last store.new ≡ failed_read name) }
     ensures store_rose { IfStoreFault result (λ _. Rose (S.faults store.old) (S.faults store.new)) }
-    // What was taken is a prefix of the text that Good would have written, and the sink's count rose.
-    ensures sink_fault { result ≡ status.SinkFault → Replays (map string_bytes words.now) (S.told store.old) (λ text. TakesPrefix (K.taken out.old) text (K.taken out.new)) }
+    // What was taken is a prefix of the text that Good would have written, and the sink's count
+    // rose.
+    ensures sink_fault { result ≡ status.SinkFault →
+        Replays (map string_bytes words.now) (S.told store.old)
+        (λ text. TakesPrefix (K.taken out.old) text (K.taken out.new)) }
     ensures sink_rose { result ≡ status.SinkFault → Rose (K.faults out.old) (K.faults out.new) }
     // Over a store that tells, and where no count of faults rose, its files decide the status.
     ensures complete { (files : Files) (file : List ℕ) →
@@ -124,10 +145,10 @@ pub fn run<R: Wait + Threads + Sync, S: Store, K: Sink, D: Door, C: Clock, G: Ga
     // With the other statuses nothing is written, and no file ever changes.
     ensures silent { is_silent result ≡ true → out.new ≡ out.old }
     ensures files { AllStay (S.told store.old) (S.told store.new) }
-    // The file asked for is read once, and no other one; the read failed exactly with StoreFault.
+    // The file asked for and the traces that it names are read, each once; the last read failed
+    // exactly with StoreFault.
     ensures reads { (file : List ℕ) → file_asked (map string_bytes words.now) ≡ Some file →
-        S.calls store.new
-        ≡ S.calls store.old ++ read_of file (is_store_fault result) ∷ [] }
+        ReadsFor (S.told store.old) file result (S.calls store.old) (S.calls store.new) }
     // With other words the store is not asked; the door and the clock never are.
     ensures unasked { result ≡ status.Usage → store.new ≡ store.old }
     ensures door { _door.new ≡ _door.old }
