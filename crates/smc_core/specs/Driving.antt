@@ -1,5 +1,5 @@
 -- What a daemon that drives a machine does for its lines.
-use Rattle.std.specs.Prelude.{ℕ, zero, suc, Option, Some, None, List, [], ◌∷◌, ◌++◌, codes, fold, flat_map}
+use Rattle.std.specs.Prelude.{ℕ, zero, suc, Option, None, List, [], ◌∷◌, ◌++◌, codes, fold}
 use Rattle.std.specs.Option.{option_map_or}
 use Rattle.mr_model.specs.Deeds.{Deed, Asked, Received, Ticked}
 use Rattle.mr_model.specs.declared.message.Told.{Told}

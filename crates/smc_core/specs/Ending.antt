@@ -4,7 +4,7 @@ use Rattle.mr_words.specs.Binds.{◌>>=◌}
 use Rattle.mr_model.specs.declared.request.Request.TheVariants as request
 use Rattle.smc_core.specs.Machine.{Machine, Turn, asking}
 use Rattle.smc_core.specs.Ranges.{is_none_behind}
-use Rattle.smc_core.specs.Requests.{del_learned}
+use Rattle.smc_rules.specs.Requests.{del_learned}
 use Rattle.smc_core.specs.Mistakes.{wants}
 use Rattle.smc_words.specs.Words.{Word}
 use Rattle.smc_core.specs.declared.mistake.Mistake.{Mistake}

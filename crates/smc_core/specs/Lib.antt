@@ -3,16 +3,12 @@ pub mod Changing
 pub mod Driving
 pub mod Ending
 pub mod Inputs
-pub mod Interfaces
 pub mod Joining
-pub mod Keys
 pub mod Machine
 pub mod Mistakes
 pub mod Ranges
 pub mod Replies
 pub mod Reports
-pub mod Requests
-pub mod Rules
 pub mod Showing
 pub mod Smc
 pub mod Starting

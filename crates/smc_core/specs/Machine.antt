@@ -2,15 +2,10 @@
 use Rattle.std.specs.Prelude.{ℕ, Bool, false, None, List, [], ◌∷◌, length}
 use Rattle.mr_model.specs.declared.request.Request.{Request}
 use Rattle.smc_conf.specs.declared.conf.Conf.{Conf}
+use Rattle.smc_rules.specs.Settings.{SettingsValue}
+use Rattle.smc_rules.specs.declared.learned.Learned.{Learned}
 use Rattle.smc_words.specs.Words.{Word, ok_line}
-use Rattle.smc_core.specs.declared.interface.Interface.{Interface}
-use Rattle.smc_core.specs.declared.key.Key.{Key}
-use Rattle.smc_core.specs.declared.learned.Learned.{Learned}
 use Rattle.smc_core.specs.declared.plan.Plan.{Plan}
-
--- Where packets of a key go on: the names of the outputs, as they are given.
-abbrev pub Rule : Type 0
-Rule = Key × List Word
 
 pub record Machine : Type 0 where
   -- the devices in order; their numbers are 1, 2, ..
@@ -19,11 +14,8 @@ pub record Machine : Type 0 where
   -- which of them was taken last, from 0
   pub place : ℕ
   pub running : Bool
-  -- the active interfaces; their vifs are 0, 1, ..
-  pub interfaces : List Interface
-  -- no two have one key
-  pub rules : List Rule
-  pub groups : List Key
+  -- what it set, as commands have changed it since
+  pub settings : SettingsValue
   -- the routes that were made for reports, oldest first
   pub learned : List Learned
   pub plan : Plan

@@ -1,16 +1,17 @@
 -- `IF [A[/LEN]] G[/LEN]`: A is given exactly where the second word after IF is there and begins
 -- with a digit.
-use Rattle.std.specs.Prelude.{ℕ, Bool, true, false, if◌then◌else◌, Option, Some, None, Result, Ok, Err, List, [], ◌∷◌, ◌++◌}
+use Rattle.std.specs.Prelude.{ℕ, Bool, true, false, if◌then◌else◌, Option, Some, None}
+use Rattle.std.specs.Prelude.{Result, Ok, Err, List, [], ◌∷◌, ◌++◌}
 use Rattle.mr_words.specs.Binds.{◌>>=◌}
 use Rattle.mr_words.specs.Numbers.{is_digit}
 use Rattle.smc_conf.specs.Forms.{source_word, group_word}
 use Rattle.smc_conf.specs.Ranges.{any_source}
 use Rattle.smc_conf.specs.declared.conf.Prefix.{Prefix}
 use Rattle.smc_conf.specs.declared.stop.Kind.{Kind}
-use Rattle.smc_core.specs.Interfaces.{vif_of}
+use Rattle.smc_rules.specs.Interfaces.{vif_of}
 use Rattle.smc_words.specs.Words.{Word}
-use Rattle.smc_core.specs.declared.interface.Interface.{Interface}
-use Rattle.smc_core.specs.declared.key.Key.{Key}
+use Rattle.smc_rules.specs.declared.interface.Interface.{Interface}
+use Rattle.smc_rules.specs.declared.key.Key.{Key}
 use Rattle.smc_core.specs.declared.mistake.Mistake.{Mistake}
 use Rattle.smc_core.specs.declared.mistake.Mistake.TheVariants as mistake
 

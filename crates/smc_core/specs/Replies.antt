@@ -1,12 +1,13 @@
 -- Replies: all requests of a plan are made, whatever the replies.
-use Rattle.std.specs.Prelude.{ℕ, ◌-◌, ◌==◌, Bool, true, false, if◌then◌else◌, Option, Some, None, List, [], ◌∷◌, ◌++◌, codes, decimal, length, take}
+use Rattle.std.specs.Prelude.{ℕ, ◌-◌, ◌==◌, Bool, true, false, if◌then◌else◌}
+use Rattle.std.specs.Prelude.{Option, Some, None, List, [], ◌∷◌, codes, decimal, length, take}
 use Rattle.mr_base.specs.Errnos.{number_of}
 use Rattle.mr_base.specs.declared.errno.Errno.{Errno}
 use Rattle.mr_model.specs.declared.reply.Reply.{Reply}
 use Rattle.mr_model.specs.declared.reply.Reply.TheVariants as answer
 use Rattle.smc_core.specs.Machine.{Machine, Turn, silent, saying}
 use Rattle.smc_words.specs.Words.{line, ok_line}
-use Rattle.smc_core.specs.declared.learned.Learned.{Learned}
+use Rattle.smc_rules.specs.declared.learned.Learned.{Learned}
 use Rattle.smc_core.specs.declared.plan.Plan.{Plan}
 
 -- the first error among replies

@@ -1,16 +1,18 @@
 -- `show`, `show routes`, `show groups` and `show interfaces`.
-use Rattle.std.specs.Prelude.{ℕ, ◌+◌, ◌==◌, if◌then◌else◌, Result, Ok, Err, List, [], ◌∷◌, ◌++◌, bytes_eq, codes, decimal, flat_map}
+use Rattle.std.specs.Prelude.{ℕ, ◌+◌, ◌==◌, if◌then◌else◌, Result, Ok, Err}
+use Rattle.std.specs.Prelude.{List, [], ◌∷◌, ◌++◌, bytes_eq, codes, decimal, flat_map}
 use Rattle.std.specs.List.{join_with_byte}
 use Rattle.mr_words.specs.Binds.{◌>>=◌}
 use Rattle.smc_conf.specs.declared.conf.Prefix.{Prefix}
-use Rattle.smc_core.specs.Interfaces.{name_of}
-use Rattle.smc_core.specs.Machine.{Rule, Machine}
+use Rattle.smc_rules.specs.Interfaces.{name_of}
+use Rattle.smc_rules.specs.Rules.{Rule}
+use Rattle.smc_core.specs.Machine.{Machine}
 use Rattle.smc_core.specs.Ranges.{is_none_behind}
 use Rattle.smc_core.specs.Mistakes.{wants}
 use Rattle.smc_words.specs.Words.{Word, address, line, ok_line}
-use Rattle.smc_core.specs.declared.interface.Interface.{Interface}
-use Rattle.smc_core.specs.declared.key.Key.{Key}
-use Rattle.smc_core.specs.declared.learned.Learned.{Learned}
+use Rattle.smc_rules.specs.declared.interface.Interface.{Interface}
+use Rattle.smc_rules.specs.declared.key.Key.{Key}
+use Rattle.smc_rules.specs.declared.learned.Learned.{Learned}
 use Rattle.smc_core.specs.declared.mistake.Mistake.{Mistake}
 use Rattle.smc_core.specs.declared.mistake.Mistake.TheVariants as mistake
 
@@ -43,13 +45,14 @@ interface_lines v (i ∷ is) =
 
 abbrev pub routes_text : Machine → List ℕ
 routes_text m =
-    flat_map route_line m.rules ++ flat_map (learned_line m.interfaces) m.learned ++ ok_line
+    flat_map route_line m.settings.rules
+    ++ flat_map (learned_line m.settings.interfaces) m.learned ++ ok_line
 
 abbrev pub groups_text : Machine → List ℕ
-groups_text m = flat_map group_line m.groups ++ ok_line
+groups_text m = flat_map group_line m.settings.groups ++ ok_line
 
 abbrev pub interfaces_text : Machine → List ℕ
-interfaces_text m = interface_lines 0 m.interfaces ++ ok_line
+interfaces_text m = interface_lines 0 m.settings.interfaces ++ ok_line
 
 -- what is shown, by its word
 abbrev pub shown : Machine → Word → Result (List ℕ) Mistake

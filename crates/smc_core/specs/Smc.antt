@@ -1,7 +1,9 @@
 -- The routing machine after smcroute: what each input gives.
-use Rattle.std.specs.Prelude.{ℕ, ◌<◌, ◌≡◌, Bool, false, if◌then◌else◌, None, Result, Ok, Err, List, [], ◌∷◌, bytes_eq, codes}
+use Rattle.std.specs.Prelude.{ℕ, false, if◌then◌else◌, None, Result, Ok, Err}
+use Rattle.std.specs.Prelude.{List, [], ◌∷◌, bytes_eq, codes}
 use Rattle.mr_words.specs.Binds.{◌>>=◌}
 use Rattle.smc_conf.specs.declared.conf.Conf.{Conf}
+use Rattle.smc_rules.specs.Settings.{no_settings}
 use Rattle.smc_core.specs.Changing.{add, remove}
 use Rattle.smc_core.specs.Ending.{flush, kill, poll}
 use Rattle.smc_core.specs.Joining.{join, leave}
@@ -22,9 +24,7 @@ first_machine names confs =
       confs = confs;
       place = 0;
       running = false;
-      interfaces = [];
-      rules = [];
-      groups = [];
+      settings = no_settings;
       learned = [];
       plan = record { left = 0; refused = None; learning = false };
     })

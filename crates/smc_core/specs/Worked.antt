@@ -1,11 +1,11 @@
 -- Worked rows of the routing machine.
-use Rattle.std.specs.Prelude.{ℕ, Option, Some, None, Result, Ok, Err, List, [], ◌∷◌, ◌++◌, map, codes, replicate}
+use Rattle.std.specs.Prelude.{ℕ, Some, None, Result, Ok, Err, List, [], ◌∷◌, ◌++◌}
+use Rattle.std.specs.Prelude.{map, codes, replicate}
 use Rattle.mr_base.specs.declared.errno.Errno.{Errno}
 use Rattle.mr_base.specs.declared.numbers.Addr.{Addr}
-use Rattle.mr_model.specs.Deeds.{Deed, Asked, Received, Ticked}
+use Rattle.mr_model.specs.Deeds.{Deed, Asked, Received}
 use Rattle.mr_model.specs.declared.message.Told.{Told}
 use Rattle.mr_model.specs.declared.message.Kind.TheVariants as kind
-use Rattle.mr_model.specs.declared.reply.Reply.{Reply}
 use Rattle.mr_model.specs.declared.reply.Reply.TheVariants as answer
 use Rattle.mr_model.specs.declared.request.Request.{Request}
 use Rattle.mr_model.specs.declared.request.Request.TheVariants as request
@@ -13,7 +13,7 @@ use Rattle.smc_conf.specs.Spelled.{spelled}
 use Rattle.smc_conf.specs.WorkedConfigurations.{text, office}
 use Rattle.smc_conf.specs.declared.conf.Conf.{Conf}
 use Rattle.smc_conf.specs.declared.stop.ConfError.{ConfError}
-use Rattle.smc_core.specs.Driving.{Line, Start, Poll, Command, Answer, Replied, Reported, smc}
+use Rattle.smc_core.specs.Driving.{Line, Start, Command, Answer, Replied, Reported, smc}
 use Rattle.smc_core.specs.Machine.{Machine}
 use Rattle.smc_core.specs.Smc.{first_machine}
 use Rattle.smc_words.specs.Words.{Word}
@@ -156,6 +156,35 @@ film_goes = good (del_mfc host film 0)
 abbrev pub news_goes : Deed
 news_goes = good (del_mfc sender news 0)
 
+-- Two interfaces and no rule: a rule is added, shown, and another one removed in vain.
+abbrev pub session_machine : Machine
+session_machine =
+    first_machine names
+    (conf_in (spelled (text (codes "phyint eth0 enable" ∷ codes "phyint eth1 enable" ∷ []))))
+
+abbrev pub session : List Line
+session =
+    Start ∷ Command (codes "add eth0 10.0.0.9 239.1.1.1 eth1") ∷ Command (codes "show")
+    ∷ Command (codes "remove eth0 239.9.9.9") ∷ Command (codes "kill") ∷ []
+
+abbrev pub session_says : List ℕ
+session_says = text (
+    codes "ok"
+    ∷ codes "ok"
+    ∷ codes "route eth0 10.0.0.9 239.1.1.1 eth1"
+    ∷ codes "ok"
+    ∷ codes "error no such route"
+    ∷ codes "ok"
+    ∷ [])
+
+-- A packet of the news, whose exact rule makes no route for reports, is served by a wider rule.
+abbrev pub learn_news : List Answer
+learn_news = told (no_cache 0 sender news) ∷ yes_reply ∷ []
+
+abbrev pub news_learned : List Deed
+news_learned =
+    Received (Some (no_cache 0 sender news)) ∷ good (add_mfc sender news 0 [] 32) ∷ []
+
 abbrev pub city_routes : List ℕ
 city_routes = text (
     codes "route eth0 10.0.0.9 239.1.1.1 eth2,eth0,eth1"
@@ -163,6 +192,12 @@ city_routes = text (
     ∷ codes "route eth0 * 239.2.0.0/16 eth2"
     ∷ codes "route eth0 * 239.0.0.0/8 eth0"
     ∷ [])
+
+-- the same, with the film's learned route, which stands twice
+abbrev pub film_shown_twice : List ℕ
+film_shown_twice =
+    city_routes
+    ++ codes "learned eth0 10.0.0.7 239.2.3.4\nlearned eth0 10.0.0.7 239.2.3.4\nok\n"
 
 -- the same, with the film's learned route
 abbrev pub film_shown : List ℕ

@@ -4,20 +4,18 @@ ghost use Rattle.std.specs.Prelude.{◌≡◌, ◌<◌, ◌^◌, map, filter, no
 ghost use Rattle.smc_core.specs.Answers.{Steps};
 ghost use Rattle.smc_core.specs.Changing.{add, remove, is_of, undoing, left_by};
 ghost use Rattle.smc_core.specs.Joining.{group_in, join, leave};
-ghost use Rattle.smc_core.specs.Requests.{del_learned as removal};
+ghost use Rattle.smc_rules.specs.Requests.{del_learned as removal};
 ghost use Rattle.smc_words.specs.Words.{command_words};
 
 use crate::commands::asking;
 use crate::input::Output;
-use crate::key::Key;
-use crate::learned::Learned;
 use crate::mistake::Mistake;
 use crate::plan::Plan;
 use crate::ranges::{active_key, active_names, nothing_behind, range_of, something_behind};
-use crate::requests::{del_learned, del_route, is_exact, push_add};
 use crate::smc::Smc;
 use crate::stop::Stop;
 use mr_model::Request;
+use smc_rules::{Key, Learned, del_learned, del_route, is_exact};
 use std::alloc::{AllocError, Global};
 
 /// Whether a learned route is the rule's of this key, whose input has this vif.
@@ -86,13 +84,14 @@ impl Smc {
     {
         let range = range_of(words)?;
         something_behind(range.behind)?;
-        let interfaces = self.settings.interfaces.as_slice();
+        let interfaces = self.settings.interfaces();
         let (_vif, key) = active_key(interfaces, range.input, range.source, range.group)?;
         let outs = active_names(self.alloc, interfaces, range.behind)?;
         let mut requests = Vec::new(self.alloc);
-        push_add(interfaces, &key, outs.0.as_slice(), &mut requests)?;
+        self.settings
+            .push_rule(&key, outs.0.as_slice(), &mut requests)?;
         let output = asking(self.alloc, requests)?;
-        self.settings.rules.insert(key, outs)?;
+        self.settings.set_rule(key, outs)?;
         self.plan = Plan::of(&output);
         Ok(output)
     }
@@ -103,14 +102,14 @@ impl Smc {
     {
         let range = range_of(words)?;
         nothing_behind(range.behind)?;
-        let interfaces = self.settings.interfaces.as_slice();
+        let interfaces = self.settings.interfaces();
         let (vif, key) = active_key(interfaces, range.input, range.source, range.group)?;
-        if !self.settings.rules.contains_key(&key) {
+        if !self.settings.has_rule(&key) {
             return Err(Stop::Bad(Mistake::NoRoute));
         }
         let requests = undoing(self.alloc, vif, &key, self.learned.0.as_slice())?;
         let output = asking(self.alloc, requests)?;
-        self.settings.rules.shift_remove(&key);
+        self.settings.remove_rule(&key);
         forget(vif, &key, &mut self.learned.0);
         self.plan = Plan::of(&output);
         Ok(output)
@@ -118,11 +117,11 @@ impl Smc {
 
     /// The key of a group in a command.
     fn group_in(&self, words: &[u8]) -> Result<Key, Mistake>
-        ensures { result ≡ group_in self.now.interfaces (command_words words.now) }
+        ensures { result ≡ group_in self.now.settings.interfaces (command_words words.now) }
     {
         let range = range_of(words)?;
         nothing_behind(range.behind)?;
-        let interfaces = self.settings.interfaces.as_slice();
+        let interfaces = self.settings.interfaces();
         let (_vif, key) = active_key(interfaces, range.input, range.source, range.group)?;
         Ok(key)
     }
@@ -133,7 +132,7 @@ impl Smc {
     {
         let key = self.group_in(words)?;
         let output = asking(self.alloc, Vec::new(self.alloc))?;
-        self.settings.groups.insert(key)?;
+        self.settings.join(key)?;
         self.plan = Plan::of(&output);
         Ok(output)
     }
@@ -143,11 +142,11 @@ impl Smc {
         ensures { Steps result self.old self.new (leave self.old (command_words words.now)) }
     {
         let key = self.group_in(words)?;
-        if !self.settings.groups.contains(&key) {
+        if !self.settings.has_group(&key) {
             return Err(Stop::Bad(Mistake::NoGroup));
         }
         let output = asking(self.alloc, Vec::new(self.alloc))?;
-        self.settings.groups.shift_remove(&key);
+        self.settings.leave(&key);
         self.plan = Plan::of(&output);
         Ok(output)
     }

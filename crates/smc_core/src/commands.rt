@@ -1,12 +1,12 @@
 //! Commands: which one it is, and those without an address.
 
-ghost use Rattle.std.specs.Prelude.{◌≡◌, ◌++◌, [], false, None, length, IfOk, OnOk};
+ghost use Rattle.std.specs.Prelude.{◌≡◌, [], false, None, length, IfOk};
 ghost use Rattle.smc_core.specs.Answers.{Steps};
 ghost use Rattle.smc_core.specs.Ending.{flush, kill, poll};
 ghost use Rattle.smc_core.specs.Inputs.{Takes};
 ghost use Rattle.smc_core.specs.Machine.{text_at_once};
 ghost use Rattle.smc_core.specs.Smc.{command, by_state, by_word, while_running, while_stopped};
-ghost use Rattle.smc_core.specs.Starting.{start, reload, next_place, clearings};
+ghost use Rattle.smc_core.specs.Starting.{start, reload, next_place};
 ghost use Rattle.smc_core.specs.Mistakes.{mistake_line};
 ghost use Rattle.smc_words.specs.Words.{command_words};
 
@@ -14,12 +14,11 @@ use crate::input::Output;
 use crate::mistake::Mistake;
 use crate::plan::Plan;
 use crate::ranges::nothing_behind;
-use crate::requests::{push_del_learned, push_del_rules, push_del_vifs};
-use crate::settings::Settings;
 use crate::smc::Smc;
 use crate::stop::Stop;
 use mr_base::{List, Memory};
 use mr_model::Request;
+use smc_rules::{Settings, push_del_learned};
 use smc_words::next_word;
 use std::alloc::{AllocError, Global};
 
@@ -175,7 +174,8 @@ impl Smc {
         let names = self.names.0.as_slice();
         let settings = Settings::at(self.alloc, names, self.confs.0.as_slice(), place)?;
         let mut requests = Vec::new(self.alloc);
-        self.push_clearings(&mut requests)?;
+        let learned = self.learned.0.as_slice();
+        self.settings.push_clearings(learned, &mut requests)?;
         settings.push_makings(&mut requests)?;
         let output = asking(self.alloc, requests)?;
         self.place = place;
@@ -195,17 +195,6 @@ impl Smc {
         } else {
             self.place
         }
-    }
-
-    /// The routes of exact rules go, then the learned ones, then each vif, rising.
-    fn push_clearings(&self, requests: &mut Vec<Request>) -> Result<(), AllocError>
-        ensures { OnOk result (requests.new.items ≡ requests.old.items ++ clearings self.now) }
-    {
-        let interfaces = self.settings.interfaces.as_slice();
-        push_del_rules(interfaces, &self.settings.rules, requests)?;
-        push_del_learned(self.learned.0.as_slice(), requests)?;
-        push_del_vifs(interfaces, requests)?;
-        Ok(())
     }
 
     /// `flush`: each learned route goes, oldest first.

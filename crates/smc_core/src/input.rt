@@ -1,6 +1,7 @@
 use mr_model::{Reply, Request, Told};
 
 /// What comes to the machine.
+#[derive(Clone, Copy, Debug)]
 pub enum Input<'a> {
     /// A command line, without its line feed.
     Command(&'a [u8]),
@@ -11,7 +12,7 @@ pub enum Input<'a> {
 }
 
 /// What the machine wants done.
-#[derive(Drop)]
+#[derive(Debug, Drop)]
 pub struct Output {
     /// The requests that are now to be made, all of them and in this order.
     pub requests: Vec<Request>,

@@ -5,27 +5,19 @@
 mod changing;
 mod commands;
 mod input;
-mod interface;
-mod interfaces;
-mod key;
-mod learned;
 mod mistake;
 mod plan;
 mod ranges;
 mod replies;
-mod requests;
-mod rules;
-mod settings;
 mod show;
 mod showing;
 mod smc;
 mod stop;
+#[cfg(test)]
+mod tests;
 mod worked;
 
 pub use input::{Input, Output};
-pub use interface::Interface;
-pub use key::Key;
-pub use learned::Learned;
 pub use mistake::Mistake;
 pub use plan::Plan;
 pub use smc::Smc;

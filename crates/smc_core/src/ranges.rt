@@ -2,21 +2,20 @@
 
 ghost use Rattle.std.specs.Prelude.{◌≡◌, ◌<◌, [], length, not, IfOk, option_copied};
 ghost use Rattle.smc_core.specs.Answers.{Gives, Makes};
-ghost use Rattle.smc_core.specs.Interfaces.{name_of};
-ghost use Rattle.smc_core.specs.Ranges.{begins_with_digit, range_of, source_in, prefix_in, active_vif, active_key, is_none_behind, names_from};
+ghost use Rattle.smc_core.specs.Ranges.{begins_with_digit, range_of, source_in, prefix_in};
+ghost use Rattle.smc_core.specs.Ranges.{active_vif, active_key, is_none_behind, names_from};
 ghost use Rattle.smc_core.specs.Mistakes.{wants};
+ghost use Rattle.smc_rules.specs.Interfaces.{name_of};
 ghost use Rattle.smc_words.specs.Words.{command_words};
 ghost use Rattle.smc_core.specs.declared.mistake.Mistake.TheVariants as mistake;
 ghost use Rattle.smc_conf.specs.Forms.{group_word};
 
-use crate::interface::Interface;
-use crate::interfaces::vif_of;
-use crate::key::Key;
 use crate::mistake::Mistake;
 use crate::stop::Stop;
 use mr_base::{Addr, FileName, List};
 use mr_words::is_digit;
 use smc_conf::{Prefix, group_word, source_word};
+use smc_rules::{Interface, Key, vif_of};
 use smc_words::next_word;
 use std::alloc::Global;
 
@@ -86,7 +85,6 @@ fn group_in(word: &[u8]) -> Result<Prefix, Mistake>
 }
 
 /// The vif of an interface that has to be active.
-#[tactic(auto, using(crate::proofs::Named::vif_named))]
 fn active_vif(interfaces: &[Interface], name: &[u8]) -> Result<usize, Mistake>
     ensures value { result ≡ active_vif interfaces.now name.now }
     ensures within { IfOk result (λ v. v < length interfaces.now) }

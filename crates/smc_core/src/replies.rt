@@ -1,21 +1,18 @@
 //! Reports and replies.
 
-ghost use Rattle.std.specs.Prelude.{◌≡◌, ◌<◌, ◌≤◌, [], length, IfOk, OnErr};
+ghost use Rattle.std.specs.Prelude.{◌≡◌, ◌<◌, [], IfOk, OnErr};
 ghost use Rattle.smc_core.specs.Answers.{turn_of};
 ghost use Rattle.smc_core.specs.Inputs.{Takes};
-ghost use Rattle.smc_core.specs.Replies.{first_error, plan_after, outcome_text, kept, settled, reply};
-ghost use Rattle.smc_core.specs.Reports.{asked_by, asked_for, learning, report};
+ghost use Rattle.smc_core.specs.Replies.{first_error, outcome_text, kept, settled, reply};
+ghost use Rattle.smc_core.specs.Reports.{learning, report};
+ghost use Rattle.smc_rules.specs.Reports.{asked_for};
 
 use crate::input::Output;
-use crate::interface::Interface;
-use crate::key::Key;
-use crate::learned::Learned;
 use crate::plan::Plan;
-use crate::requests::add_route;
-use crate::rules::first_serving;
 use crate::smc::Smc;
-use mr_base::{Errno, FileName, Memory};
-use mr_model::{Kind, Reply, Request, Told};
+use mr_base::{Errno, Memory};
+use mr_model::{Kind, Reply, Told};
+use smc_rules::Learned;
 use smc_words::write_number;
 use std::alloc::{AllocError, Global};
 
@@ -66,27 +63,6 @@ fn nothing(alloc: Global) -> Output
     }
 }
 
-/// What a rule asks for a packet that had no route, and how the route is learned.
-fn asked_by(
-    interfaces: &[Interface],
-    told: Told,
-    key: &Key,
-    outs: &[FileName],
-) -> (Request, Learned)
-    requires { length interfaces.now ≤ 32 }
-    ensures { result ≡ asked_by interfaces.now told (key.now, outs.now) }
-{
-    let request = add_route(interfaces, usize::from(told.vif), told.src, told.dst, outs);
-    let learned = Learned {
-        vif: told.vif,
-        src: told.src,
-        dst: told.dst,
-        source: key.source,
-        group: key.group,
-    };
-    (request, learned)
-}
-
 impl Smc {
     /// What a reply makes the machine say.
     pub(crate) fn reply(&mut self, answer: Reply) -> Result<Output, Memory>
@@ -135,24 +111,13 @@ impl Smc {
         }
     }
 
-    /// What is asked for a packet that had no route.
-    fn asked_for(&self, told: Told) -> Option<(Request, Learned)>
-        ensures { result ≡ asked_for self.now told }
-    {
-        let interfaces = self.settings.interfaces.as_slice();
-        let interface = interfaces.get(usize::from(told.vif))?;
-        let name = interface.name.as_str().as_bytes();
-        let (key, outs) = first_serving(name, told, &self.settings.rules)?;
-        Some(asked_by(interfaces, told, key, outs.0.as_slice()))
-    }
-
     /// A packet had no route.
     fn miss(&mut self, told: Told) -> Result<Output, AllocError>
         ensures ok { IfOk result
-            (λ o. turn_of self.new o ≡ learning self.old (asked_for self.old told)) }
+            (λ o. turn_of self.new o ≡ learning self.old (asked_for self.old.settings told)) }
         ensures err { OnErr result (self.new ≡ self.old) }
     {
-        let Some((request, learned)) = self.asked_for(told) else {
+        let Some((request, learned)) = self.settings.asked_for(told) else {
             return Ok(nothing(self.alloc));
         };
         let mut requests = Vec::new(self.alloc);

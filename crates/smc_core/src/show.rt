@@ -2,7 +2,8 @@
 
 ghost use Rattle.std.specs.Prelude.{◌≡◌, IfOk};
 ghost use Rattle.smc_core.specs.Answers.{Steps, Makes};
-ghost use Rattle.smc_core.specs.Showing.{routes_text, groups_text, interfaces_text, shown, show_text};
+ghost use Rattle.smc_core.specs.Showing.{routes_text, groups_text, interfaces_text};
+ghost use Rattle.smc_core.specs.Showing.{shown, show_text};
 ghost use Rattle.smc_core.specs.Smc.{show};
 ghost use Rattle.smc_words.specs.Words.{command_words};
 
@@ -55,8 +56,8 @@ impl Smc {
         ensures { IfOk result (λ v. v.items ≡ routes_text self.now) }
     {
         let mut text = Vec::new(self.alloc);
-        write_routes(&mut text, &self.settings.rules)?;
-        let interfaces = self.settings.interfaces.as_slice();
+        write_routes(&mut text, self.settings.rules())?;
+        let interfaces = self.settings.interfaces();
         write_learned(&mut text, interfaces, self.learned.0.as_slice())?;
         text.extend_from_slice(b"ok\n")?;
         Ok(text)
@@ -66,7 +67,7 @@ impl Smc {
         ensures { IfOk result (λ v. v.items ≡ groups_text self.now) }
     {
         let mut text = Vec::new(self.alloc);
-        write_groups(&mut text, &self.settings.groups)?;
+        write_groups(&mut text, self.settings.groups())?;
         text.extend_from_slice(b"ok\n")?;
         Ok(text)
     }
@@ -75,7 +76,7 @@ impl Smc {
         ensures { IfOk result (λ v. v.items ≡ interfaces_text self.now) }
     {
         let mut text = Vec::new(self.alloc);
-        write_interfaces(&mut text, self.settings.interfaces.as_slice())?;
+        write_interfaces(&mut text, self.settings.interfaces())?;
         text.extend_from_slice(b"ok\n")?;
         Ok(text)
     }

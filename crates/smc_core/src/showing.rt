@@ -1,16 +1,14 @@
 //! What `show` shows.
 
 ghost use Rattle.std.specs.Prelude.{◌≡◌, ◌≤◌, ◌++◌, ◌∷◌, [], decimal, flat_map, length, OnOk};
-ghost use Rattle.smc_core.specs.Showing.{group_text, source_text, route_line, learned_line, group_line, interface_lines};
-ghost use Rattle.smc_core.specs.Interfaces.{name_of};
+ghost use Rattle.smc_core.specs.Showing.{group_text, source_text, route_line};
+ghost use Rattle.smc_core.specs.Showing.{learned_line, group_line, interface_lines};
+ghost use Rattle.smc_rules.specs.Interfaces.{name_of};
 ghost use Rattle.smc_words.specs.Words.{line};
 
-use crate::interface::Interface;
-use crate::key::Key;
-use crate::learned::Learned;
-use crate::rules::{Groups, Rules};
 use mr_base::FileName;
 use smc_conf::Prefix;
+use smc_rules::{Groups, Interface, Key, Learned, Rules};
 use smc_words::{write_address, write_name, write_names, write_number};
 use std::alloc::AllocError;
 

@@ -3,11 +3,10 @@ ghost use Rattle.smc_core.specs.Inputs.{IsDue, Takes, turn};
 ghost use Rattle.smc_core.specs.Smc.{first_machine};
 
 use crate::input::{Input, Output};
-use crate::learned::Learned;
 use crate::plan::Plan;
-use crate::settings::Settings;
 use mr_base::{FileName, List, Memory};
 use smc_conf::Conf;
+use smc_rules::{Learned, Settings};
 use std::alloc::Global;
 use std::marker::Model;
 
@@ -31,7 +30,6 @@ pub struct Smc {
 }
 
 impl Model for Smc {
-    ghost use Rattle.std.specs.Prelude.{◌≤◌, length};
     ghost use Rattle.smc_core.specs.Machine.{Machine};
 
     ghost Value = { Machine };
@@ -41,14 +39,10 @@ impl Model for Smc {
       confs = s.confs;
       place = s.place;
       running = s.running;
-      interfaces = s.settings.interfaces.items;
-      rules = s.settings.rules.entries;
-      groups = s.settings.groups.keys;
+      settings = s.settings;
       learned = s.learned;
       plan = s.plan;
     } };
-
-    ghost invariant = { λ s. length s.settings.interfaces.items ≤ 32 };
 }
 
 impl Smc {

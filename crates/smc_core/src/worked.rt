@@ -4,12 +4,23 @@ ghost use Rattle.mr_model.specs.Deeds.{Received, Ticked};
 ghost use Rattle.mr_model.specs.declared.request.Request.TheVariants as request;
 ghost use Rattle.smc_conf.specs.WorkedConfigurations.{text};
 ghost use Rattle.smc_core.specs.Driving.{Start, Poll, Tick, Command, smc};
-ghost use Rattle.smc_core.specs.Worked.{office_machine, office_answers, office_day, city_machine, city_routes, film_shown, says, does, answers_to, yes_reply, refusal, told, film_told, learn_film, film_learned, film_goes, news_goes, good, refused, add_vif, add_mfc, del_mfc, no_cache, wrong_vif, host, sender, news, film};
+ghost use Rattle.smc_core.specs.Worked.{office_machine, office_answers, office_day};
+ghost use Rattle.smc_core.specs.Worked.{session_machine, session, session_says};
+ghost use Rattle.smc_core.specs.Worked.{city_machine, city_routes, film_shown, film_shown_twice};
+ghost use Rattle.smc_core.specs.Worked.{learn_news, news_learned};
+ghost use Rattle.smc_core.specs.Worked.{says, does, answers_to, yes_reply, refusal, told};
+ghost use Rattle.smc_core.specs.Worked.{film_told, learn_film, film_learned, film_goes, news_goes};
+ghost use Rattle.smc_core.specs.Worked.{good, refused, add_vif, add_mfc, del_mfc};
+ghost use Rattle.smc_core.specs.Worked.{no_cache, wrong_vif, host, sender, news, film};
 
 /// Worked rows of the routing machine: its contract says what commands and reports make it do, and
 /// what it says. It does nothing.
 pub fn worked_rows()
     ensures office { (smc office_machine (Start ∷ Poll 4 ∷ []) office_answers).deeds ≡ office_day }
+    ensures session_asks { (smc session_machine session []).deeds
+        ≡ good request.Init ∷ good (add_vif 0 1) ∷ good (add_vif 1 2)
+        ∷ good (add_mfc sender news 0 (0 ∷ 1 ∷ []) 30) ∷ good request.Finish ∷ [] }
+    ensures session_says { (smc session_machine session []).text ≡ session_says }
     ensures start { (smc city_machine (Start ∷ Tick 5 ∷ []) []).deeds
         ≡ good request.Init ∷ good (add_vif 0 1) ∷ good (add_vif 1 3)
         ∷ good (add_mfc sender news 0 (0 ∷ 1 ∷ []) 30) ∷ Ticked 5 ∷ [] }
@@ -38,6 +49,18 @@ pub fn worked_rows()
         ∷ Received None ∷ [] }
     ensures learned_shown { answers_to (Poll 2 ∷ Command (codes "show") ∷ []) learn_film
         ≡ film_shown }
+    ensures learned_twice { answers_to (Poll 1 ∷ Poll 1 ∷ Command (codes "show") ∷ [])
+        (learn_film ++ learn_film) ≡ film_shown_twice }
+    ensures removed_twice { does
+        (Poll 1 ∷ Poll 1 ∷ Command (codes "remove eth0 239.2.0.0/16") ∷ [])
+        (learn_film ++ learn_film)
+        ≡ film_learned ++ film_learned ++ film_goes ∷ film_goes ∷ [] }
+    ensures handed_on { does (Poll 1 ∷ Command (codes "add eth0 239.2.0.0/16 eth0")
+        ∷ Command (codes "remove eth0 239.2.0.0/16") ∷ []) learn_film
+        ≡ film_learned ++ film_goes ∷ [] }
+    ensures outlives { does (Poll 1 ∷ Command (codes "remove eth0 10.0.0.9 239.1.1.1")
+        ∷ Command (codes "flush") ∷ []) learn_news
+        ≡ news_learned ++ news_goes ∷ news_goes ∷ [] }
     ensures refused_unlearned { answers_to (Poll 1 ∷ Poll 1 ∷ Command (codes "show") ∷ [])
         (learn_film ++ told film_told ∷ refusal errno.NoBuffers ∷ []) ≡ film_shown }
     ensures add { says (codes "add eth2 10.0.0.9/8 224.0.0.1/4 eth0 eth2" ∷ codes "show" ∷ [])

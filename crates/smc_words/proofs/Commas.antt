@@ -1,5 +1,7 @@
 -- Names parted by commas: the first, and the others each behind a comma.
-use Rattle.std.proofs.Common.{◌≡◌, ℕ, ◌<◌, ◌-◌, List, [], ◌∷◌, ◌++◌, length, take, drop, slice_index_or, refl, sym, subst, append-nil, arith}
+use Rattle.std.proofs.Common.{◌≡◌, ℕ, ◌<◌, ◌-◌, List, [], ◌∷◌, ◌++◌}
+use Rattle.std.proofs.Common.{length, take, drop, slice_index_or}
+use Rattle.std.proofs.Common.{refl, sym, subst, append-nil, arith}
 use Rattle.std.proofs.Math.Seq.{take-length}
 use Rattle.std.specs.Prelude.{flat_map}
 use Rattle.std.specs.List.{join_with_byte}

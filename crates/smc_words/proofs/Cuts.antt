@@ -1,5 +1,7 @@
 -- Where the first blank stands, the first word ends.
-use Rattle.std.proofs.Common.{◌≡◌, ℕ, zero, suc, ◌<◌, ◌≤◌, true, false, List, [], ◌∷◌, length, take, drop, slice_index, refl, ap, ◌∙◌, arith}
+use Rattle.std.proofs.Common.{◌≡◌, ℕ, zero, suc, ◌<◌, ◌≤◌, true, false}
+use Rattle.std.proofs.Common.{List, [], ◌∷◌, length, take, drop, slice_index}
+use Rattle.std.proofs.Common.{refl, ap, ◌∙◌, arith}
 use Rattle.mr_words.specs.Words.{is_blank, front_word}
 use Rattle.smc_words.specs.Words.{onto_words, words_after, command_words}
 

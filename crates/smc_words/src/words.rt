@@ -1,6 +1,7 @@
 //! The words of a command. Blanks (spaces and tabs) part them, and there are no comments.
 
-ghost use Rattle.std.specs.Prelude.{◌≡◌, ℕ, ◌<◌, ◌≤◌, true, false, [], ◌∷◌, length, slice_index, MatchOption};
+ghost use Rattle.std.specs.Prelude.{◌≡◌, ℕ, ◌<◌, ◌≤◌, true, false, [], ◌∷◌};
+ghost use Rattle.std.specs.Prelude.{length, slice_index, MatchOption};
 ghost use Rattle.mr_words.specs.Words.{is_blank};
 ghost use Rattle.smc_words.specs.Words.{command_words};
 

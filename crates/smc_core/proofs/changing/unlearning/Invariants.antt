@@ -1,7 +1,7 @@
 use Rattle.std.proofs.Common.{◌≡◌, ◌++◌, map, drop}
 use Rattle.std.specs.Prelude.{filter}
 use Rattle.smc_core.specs.Changing.{is_of}
-use Rattle.smc_core.specs.Requests.{del_learned}
+use Rattle.smc_rules.specs.Requests.{del_learned}
 use Rattle.smc_core.proofs.changing.unlearning.Given as goal
 
 abbrev pub invariant-loop-entry : goal.invariant-loop-entry

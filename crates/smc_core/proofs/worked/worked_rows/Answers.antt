@@ -23,6 +23,14 @@ pub returns-clause-learned_shown : goal.returns-clause-learned_shown
 unfolding address digits
 returns-clause-learned_shown c = refl
 
+pub returns-clause-session_says : goal.returns-clause-session_says
+unfolding address digits
+returns-clause-session_says c = refl
+
+pub returns-clause-learned_twice : goal.returns-clause-learned_twice
+unfolding address digits
+returns-clause-learned_twice c = refl
+
 pub returns-clause-refused_unlearned : goal.returns-clause-refused_unlearned
 unfolding address digits
 returns-clause-refused_unlearned c = refl

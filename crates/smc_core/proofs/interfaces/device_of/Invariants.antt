@@ -1,7 +1,0 @@
-use Rattle.std.proofs.Common.{◌≡◌, drop}
-use Rattle.smc_core.specs.Interfaces.{device_from}
-use Rattle.smc_core.proofs.interfaces.device_of.Given as goal
-
-abbrev pub invariant-loop-device : goal.invariant-loop-device
-invariant-loop-device l =
-    device_from l.number l.name (drop l.device-index l.names) ≡ device_from 1 l.name l.names

@@ -1,7 +1,0 @@
-use Rattle.std.proofs.Common.{◌≡◌, [], drop}
-use Rattle.smc_core.specs.Joining.{groups_from}
-use Rattle.smc_core.proofs.rules.groups_of.Given as goal
-
-abbrev pub invariant-loop-line : goal.invariant-loop-line
-invariant-loop-line l =
-    groups_from l.groups.keys (drop l.line-index l.lines) ≡ groups_from [] l.lines

@@ -1,0 +1,6 @@
+pub mod Courses
+pub mod Deeds
+pub mod Lines
+pub mod Machines
+pub mod Room
+pub mod Worked
