@@ -1,0 +1,9 @@
+pub mod Looking
+pub mod Small
+pub mod Sending
+pub mod Groups
+pub mod Meetings
+pub mod Pasting
+pub mod Fating
+pub mod Granting
+pub mod Keeping

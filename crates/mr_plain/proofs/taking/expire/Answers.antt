@@ -1,0 +1,15 @@
+use Rattle.std.proofs.Common.{◌≡◌, ◌∙◌, ◌-◌, nat_lt, ap, sym, subst, filter, map, List, rules}
+use Rattle.std.proofs.lemmas.Fn.{filter_same}
+use Rattle.mr_plain_lists.specs.declared.known.Group.{Group}
+use Rattle.mr_plain_lists.specs.Knowing.{awaiting, AreGroups}
+use Rattle.mr_plain.proofs.Groups.{filter_awaiting, groups_part}
+use Rattle.mr_plain.proofs.taking.expire.Goals as goal
+
+kept : (c : goal.After-retain) → c.retain.new.self.items ≡ filter (λ g. nat_lt (c.args.moment - g.since) 10000) c.args.waiting.now.items
+kept c = filter_same _ _ _ (λ x b f' k. search rules) _ _ c.retain.ensures.filtered
+
+pub returns-clause-left : goal.returns-clause-left
+returns-clause-left c = ap (λ (ws : List Group). map awaiting ws) (kept c) ∙ filter_awaiting (λ a. nat_lt (c.args.moment - a.since) 10000) c.args.waiting.now.items
+
+pub returns-clause-few : goal.returns-clause-few
+returns-clause-few c = λ are. subst AreGroups (sym (kept c)) (groups_part (λ g. nat_lt (c.args.moment - g.since) 10000) c.args.waiting.now.items are)
