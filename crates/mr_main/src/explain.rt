@@ -42,13 +42,12 @@ fn subject(kind: Kind) -> &'static str {
     }
 }
 
-/// What was expected in place of what was found; in place of a bad line it goes by the line's form.
-fn expected(alloc: Global, found: &[u8], kind: Kind) -> Result<String, AllocError> {
-    let form = match kind {
-        Kind::Number { least, most } => return format!(in alloc; "{least} to {most}"),
-        Kind::Limit => return limit(alloc, found),
-        Kind::Word => form(found),
+/// What was expected in place of what was found, where that is always the same or, for a bad line,
+/// goes by the line's form.
+fn form_of(found: &[u8], kind: Kind) -> &'static str {
+    match kind {
         Kind::Header => "'scenario 1', in front of all others",
+        Kind::Word => form(found),
         Kind::Address => "four numbers of 0 to 255 parted by dots",
         Kind::Name => {
             "1 to 15 letters, digits, '.', '_', '-' or ':', a letter first, not pimreg, each name once"
@@ -61,8 +60,17 @@ fn expected(alloc: Global, found: &[u8], kind: Kind) -> Result<String, AllocErro
         Kind::File => {
             "a name of 1 to 255 bytes without '/', not '.' or '..', which does not begin with 'out-', at most 8"
         }
-    };
-    String::from_str(alloc, form)
+        Kind::Number { .. } | Kind::Limit => "",
+    }
+}
+
+/// What was expected in place of what was found.
+fn expected(alloc: Global, found: &[u8], kind: Kind) -> Result<String, AllocError> {
+    match kind {
+        Kind::Number { least, most } => format!(in alloc; "{least} to {most}"),
+        Kind::Limit => limit(alloc, found),
+        _ => String::from_str(alloc, form_of(found, kind)),
+    }
 }
 
 /// What is wrong with a line: what was found, as the reader gave it, and what was expected.
