@@ -153,20 +153,31 @@ fn frames_of_every_sort(rt: HostRuntime) -> Result<(), Fail> {
     Ok(())
 }
 
+/// Why a file was refused as a trace, as two numbers: which cause, from 1 in the order of
+/// `TraceCause`, and of which record; zeros for another status.
+fn cause_told(status: &Status) -> (u32, u32) {
+    match status {
+        Status::Trace { cause, .. } => match cause {
+            TraceCause::Magic => (1, 0),
+            TraceCause::LinkType => (2, 0),
+            TraceCause::CutHeader => (3, 0),
+            TraceCause::CutRecord(number) => (4, *number),
+            TraceCause::TooMany => (5, 0),
+        },
+        _ => (0, 0),
+    }
+}
+
 /// That a file is refused as a trace, for this cause.
 fn check_cause<R: AllocGlobal + Abort + Wait + Threads + Sync>(
     rt: &R,
     text: &str,
     file: Vec<u8>,
-    want: TraceCause,
+    want: (u32, u32),
 ) -> Result<(), Fail> {
     let (status, taken) = traced(rt, text, file)?;
-    let Status::Trace { file: name, cause } = status else {
-        assert_eq!(rt; told(&status), (3, 0, 0));
-        return Ok(());
-    };
-    assert_eq!(rt; name.as_str(), "t");
-    assert_eq!(rt; cause, want);
+    assert_eq!(rt; told(&status), (3, 0, 0));
+    assert_eq!(rt; cause_told(&status), want);
     assert_eq!(rt; taken.as_slice().len(), 0);
     Ok(())
 }
@@ -179,23 +190,18 @@ fn files_that_are_no_traces(rt: HostRuntime) -> Result<(), Fail> {
         &rt,
         text.as_str(),
         Vec::from_slice(alloc, &[0xa1; 23])?,
-        TraceCause::CutHeader,
+        (3, 0),
     )?;
     let mut next = Vec::from_slice(alloc, &[0x0a, 0x0d, 0x0d, 0x0a])?;
     next.extend_from_slice(&[0; 20])?;
-    check_cause(&rt, text.as_str(), next, TraceCause::Magic)?;
-    check_cause(
-        &rt,
-        text.as_str(),
-        header(alloc, MICROS, 105)?,
-        TraceCause::LinkType,
-    )?;
+    check_cause(&rt, text.as_str(), next, (1, 0))?;
+    check_cause(&rt, text.as_str(), header(alloc, MICROS, 105)?, (2, 0))?;
     let mut cut = header(alloc, MICROS, 1)?;
     record(&mut cut, MICROS[0], &[], &[0; 41])?;
     record(&mut cut, MICROS[0], &[], &[0; 41])?;
     cut.extend_from_slice(&[0, 0, 0, 0, 0, 0, 0, 0, 42, 0, 0, 0, 42, 0, 0, 0])?;
     cut.extend_from_slice(&[0; 41])?;
-    check_cause(&rt, text.as_str(), cut, TraceCause::CutRecord(3))
+    check_cause(&rt, text.as_str(), cut, (4, 3))
 }
 
 /// 1,025 records, which 1,024 lines name: 1,049,600 items, and 1,048,576 are allowed.
@@ -210,7 +216,7 @@ fn too_many_items(rt: HostRuntime) -> Result<(), Fail> {
     for _ in 0..1025u32 {
         record(&mut file, MICROS[0], &[], &[])?;
     }
-    check_cause(&rt, text.as_str(), file, TraceCause::TooMany)
+    check_cause(&rt, text.as_str(), file, (5, 0))
 }
 
 /// A scenario that names itself is not read again, and is no trace.
@@ -219,12 +225,8 @@ fn its_own_trace(rt: HostRuntime) -> Result<(), Fail> {
     let alloc = rt.alloc();
     let text = format!(in alloc; "{SETUP}lane 1 trace eth0 f\n")?;
     let (status, _) = traced(&rt, text.as_str(), Vec::new(alloc))?;
-    let Status::Trace { file, cause } = status else {
-        assert_eq!(rt; told(&status), (3, 0, 0));
-        return Ok(());
-    };
-    assert_eq!(rt; file.as_str(), "f");
-    assert_eq!(rt; cause, TraceCause::Magic);
+    assert_eq!(rt; told(&status), (3, 0, 0));
+    assert_eq!(rt; cause_told(&status), (1, 0));
     Ok(())
 }
 
@@ -234,10 +236,6 @@ fn no_such_trace(rt: HostRuntime) -> Result<(), Fail> {
     let alloc = rt.alloc();
     let text = format!(in alloc; "{SETUP}lane 1 trace eth0 u\n")?;
     let (status, _) = traced(&rt, text.as_str(), Vec::new(alloc))?;
-    let Status::StoreFault { file } = status else {
-        assert_eq!(rt; told(&status), (4, 0, 0));
-        return Ok(());
-    };
-    assert_eq!(rt; file.as_str(), "u");
+    assert_eq!(rt; told(&status), (4, 0, 0));
     Ok(())
 }
