@@ -18,7 +18,7 @@ use Rattle.mr_scenario.specs.declared.scenario.ScriptLine.{ScriptLine}
 use Rattle.mr_scenario.specs.declared.stop.Kind.TheVariants as kind
 use Rattle.mr_scenario.specs.declared.stop.Mistake.{Mistake}
 use Rattle.mr_scenario.specs.Counts.{Word, none_of, one_of, two_of, four_of, two_led}
-use Rattle.mr_scenario.specs.Fits.{Fits, IsItem, IsAsked, packets_in, packets_of}
+use Rattle.mr_scenario.specs.Fits.{Fits, IsItem, IsAsked, IsNamed, packets_in, packets_of}
 use Rattle.mr_scenario.specs.Forms.{number_in, address_word, is_taken, device_from, device_of, hex_word}
 use Rattle.mr_scenario.specs.HeadLines.{header_line, limit, entries_limit, unresolved_limit, control_limit, limit_line, lanes_line, with_device, device_line, with_daemon, daemon_line, files_from, smc_line}
 use Rattle.mr_scenario.specs.Kinds.{in_line, bad, or_bad}
@@ -50,6 +50,7 @@ pub record IsHeaded (d : Draft) : Type 0 where
   pub controls : IfSome d.controls (IsWithin 1 1048576)
   pub lanes : IfSome d.lanes (λ n. n ≤ 16)
   pub devices : length d.devices ≤ 64
+  pub names : AllByRecursion IsNamed d.devices
   pub daemons : length d.daemons ≤ 8
 
 abbrev packets_at : Phase → ℕ
@@ -106,6 +107,7 @@ moved_kept d p q sent k now more most becomes =
         controls = k.head.controls;
         lanes = k.head.lanes;
         devices = k.head.devices;
+        names = k.head.names;
         daemons = k.head.daemons;
       };
       first = λ e. absurd (cc e);
@@ -123,6 +125,7 @@ same_head d e h a b c f g i = record {
   controls = subst (λ o. IfSome o (IsWithin 1 1048576)) (sym c) h.controls;
   lanes = subst (λ o. IfSome o (λ n. n ≤ 16)) (sym f) h.lanes;
   devices = omega (arith, ap length g, h.devices);
+  names = subst (AllByRecursion IsNamed) (sym g) h.names;
   daemons = omega (arith, ap length i, h.daemons);
 }
 
@@ -177,21 +180,21 @@ entries_keep d w k now =
     let h = k.head in
     ok_then (limit d.entries 16384 w) _ (IsWithin 1 16384) Keeps (limit_within d.entries 16384 w) (λ n within.
     head_kept d (record d { entries = Some n }) k now refl refl refl
-    (record { entries = within; unresolved = h.unresolved; controls = h.controls; lanes = h.lanes; devices = h.devices; daemons = h.daemons }))
+    (record { entries = within; unresolved = h.unresolved; controls = h.controls; lanes = h.lanes; devices = h.devices; names = h.names; daemons = h.daemons }))
 
 unresolved_keep : (d : Draft) (w : Word) → Keeps d → d.current ≡ None → Kept (unresolved_limit d w)
 unresolved_keep d w k now =
     let h = k.head in
     ok_then (limit d.unresolved 64 w) _ (IsWithin 1 64) Keeps (limit_within d.unresolved 64 w) (λ n within.
     head_kept d (record d { unresolved = Some n }) k now refl refl refl
-    (record { entries = h.entries; unresolved = within; controls = h.controls; lanes = h.lanes; devices = h.devices; daemons = h.daemons }))
+    (record { entries = h.entries; unresolved = within; controls = h.controls; lanes = h.lanes; devices = h.devices; names = h.names; daemons = h.daemons }))
 
 controls_keep : (d : Draft) (w : Word) → Keeps d → d.current ≡ None → Kept (control_limit d w)
 controls_keep d w k now =
     let h = k.head in
     ok_then (limit d.controls 1048576 w) _ (IsWithin 1 1048576) Keeps (limit_within d.controls 1048576 w) (λ n within.
     head_kept d (record d { controls = Some n }) k now refl refl refl
-    (record { entries = h.entries; unresolved = h.unresolved; controls = within; lanes = h.lanes; devices = h.devices; daemons = h.daemons }))
+    (record { entries = h.entries; unresolved = h.unresolved; controls = within; lanes = h.lanes; devices = h.devices; names = h.names; daemons = h.daemons }))
 
 limit_keeps : (d : Draft) (ws : List Word) → Keeps d → d.current ≡ None → Kept (limit_line d ws)
 limit_keeps d ws k now =
@@ -207,19 +210,24 @@ lanes_keep d ws k now =
     wanted (is_none d.lanes) (in_line kind.Word) _ Keeps (λ _.
     ok_then (or_bad (number_of 16 w) (bad 1 w (kind.Number 0 16))) _ (λ n. n ≤ 16) Keeps (ok_bad (number_of 16 w) (bad 1 w (kind.Number 0 16)) (λ n. n ≤ 16) (number_least 16 w)) (λ n within.
     head_kept d (record d { lanes = Some n }) k now refl refl refl
-    (record { entries = h.entries; unresolved = h.unresolved; controls = h.controls; lanes = within; devices = h.devices; daemons = h.daemons }))))
+    (record { entries = h.entries; unresolved = h.unresolved; controls = h.controls; lanes = within; devices = h.devices; names = h.names; daemons = h.daemons }))))
 
 device_keeps : (d : Draft) (ws : List Word) → Keeps d → d.current ≡ None → Kept (device_line d ws)
 device_keeps d ws k now =
     let h = k.head in
     then_ok (or_bad (two_of ws) (in_line kind.Word)) _ Keeps (λ w.
-    wanted (is_device_name w.0 && not (is_taken d.devices w.0)) (bad 1 w.0 kind.Name) _ Keeps (λ _.
+    wanted (is_device_name w.0 && not (is_taken d.devices w.0)) (bad 1 w.0 kind.Name) _ Keeps (λ named.
     then_ok (address_word 2 w.1) _ Keeps (λ a.
     wanted (nat_lt (length d.devices) 64) (in_line kind.Limit) _ Keeps (λ less.
     let more : length (with_device d w.0 a).devices ≤ 64 =
     omega (arith, ltb-true (length d.devices) 64 less, length-append d.devices (record { name = w.0; addr = record { 0 = a } } ∷ [])) in
     head_kept d (with_device d w.0 a) k now refl refl refl
-    (record { entries = h.entries; unresolved = h.unresolved; controls = h.controls; lanes = h.lanes; devices = more; daemons = h.daemons })))))
+    (record { entries = h.entries; unresolved = h.unresolved; controls = h.controls; lanes = h.lanes; devices = more; names = names_more w.0 a named; daemons = h.daemons })))))
+  where
+    names_more : (w : Word) (a : ℕ) → (is_device_name w && not (is_taken d.devices w)) ≡ true → AllByRecursion IsNamed (with_device d w a).devices
+    names_more w a e =
+        all_push IsNamed d.devices (record { name = w; addr = record { 0 = a } }) k.head.names
+        (and_parts (is_device_name w) (not (is_taken d.devices w)) e).0
 
 with_daemon_keeps : (d : Draft) (one : DaemonKind) → Keeps d → d.current ≡ None → Kept (with_daemon d one)
 with_daemon_keeps d one k now =
@@ -227,7 +235,7 @@ with_daemon_keeps d one k now =
     wanted (nat_lt (length d.daemons) 8) (in_line kind.Limit) _ Keeps (λ less.
     let more : length (d.daemons ++ one ∷ []) ≤ 8 = omega (arith, ltb-true (length d.daemons) 8 less, length-append d.daemons (one ∷ [])) in
     head_kept d (record d { daemons = d.daemons ++ one ∷ [] }) k now refl refl refl
-    (record { entries = h.entries; unresolved = h.unresolved; controls = h.controls; lanes = h.lanes; devices = h.devices; daemons = more }))
+    (record { entries = h.entries; unresolved = h.unresolved; controls = h.controls; lanes = h.lanes; devices = h.devices; names = h.names; daemons = more }))
 
 daemon_keeps : (d : Draft) (ws : List Word) → Keeps d → d.current ≡ None → Kept (daemon_line d ws)
 daemon_keeps d ws k now =
@@ -371,6 +379,7 @@ whole_fits d k = ok_if d.begun (Ok made) _ Fits fits tt
       most_daemons = k.head.daemons;
       devices = refl;
       most_devices = k.head.devices;
+      names = k.head.names;
       items = all_weaker (IsFair (lanes_of d) (length d.devices) (length d.daemons)) (λ p. AllByRecursion (IsItem (lanes_of d) (length d.devices)) p.items) (λ p f. f.items) (phases_so_far d) k.fair;
       script = all_weaker (IsFair (lanes_of d) (length d.devices) (length d.daemons)) (λ p. AllByRecursion (IsAsked (length d.daemons)) p.script) (λ p f. f.script) (phases_so_far d) k.fair;
       most_packets = omega (arith, k.sent, k.most_sent);
@@ -378,7 +387,7 @@ whole_fits d k = ok_if d.begun (Ok made) _ Fits fits tt
 
 pub empty_keeps : Keeps empty_draft
 empty_keeps = record {
-  head = record { entries = tt; unresolved = tt; controls = tt; lanes = tt; devices = omega arith; daemons = omega arith };
+  head = record { entries = tt; unresolved = tt; controls = tt; lanes = tt; devices = omega arith; names = tt; daemons = omega arith };
   first = λ _. refl;
   sent = refl;
   most_sent = omega arith;

@@ -5,10 +5,11 @@ use Rattle.mr_scenario.specs.Spelled.{is_admin_kind, address_only}
 use Rattle.mr_scenario.specs.declared.scenario.Given.{Given}
 use Rattle.mr_scenario.specs.declared.scenario.Given.TheVariants.{Bytes, Trace}
 use Rattle.mr_scenario.specs.declared.scenario.Item.{Item}
+use Rattle.mr_scenario.specs.declared.scenario.Named.{Named}
 use Rattle.mr_scenario.specs.declared.scenario.Phase.{Phase}
 use Rattle.mr_scenario.specs.declared.scenario.Scenario.{Scenario}
 use Rattle.mr_scenario.specs.declared.scenario.ScriptLine.{ScriptLine}
-use Rattle.mr_words.specs.Names.{is_file}
+use Rattle.mr_words.specs.Names.{is_device_name, is_file}
 
 -- A file is named by a word for files.
 abbrev pub IsFileGiven : Given → Type 0
@@ -27,6 +28,10 @@ pub record IsItem (lanes devices : ℕ) (i : Item) : Type 0 where
 pub record IsAsked (daemons : ℕ) (l : ScriptLine) : Type 0 where
   pub least : 1 ≤ l.daemon.0
   pub most : l.daemon.0 ≤ daemons
+
+-- A device has a name of 1 to 15 bytes.
+abbrev pub IsNamed : Named → Type 0
+IsNamed d = is_device_name d.name ≡ true
 
 -- 1 for a packet's bytes; a trace counts once it is read
 abbrev pub packets_in : Given → ℕ
@@ -51,6 +56,7 @@ pub record Fits (s : Scenario) : Type 0 where
   pub most_daemons : length s.daemons ≤ 8
   pub devices : s.limits.devices ≡ map address_only s.devices
   pub most_devices : length s.devices ≤ 64
+  pub names : AllByRecursion IsNamed s.devices
   pub items : AllByRecursion (λ p. AllByRecursion (IsItem s.lanes (length s.devices)) p.items) s.phases
   pub script : AllByRecursion (λ p. AllByRecursion (IsAsked (length s.daemons)) p.script) s.phases
   pub most_packets : packets_of s.phases ≤ 1048576
