@@ -51,7 +51,7 @@ fn bytes_of<'a>(all: &'a [u8], held: &Held) -> &'a [u8]
 }
 
 impl LanePackets {
-    ghost use Rattle.std.specs.Prelude.{◌≡◌, ◌<◌, ◌≤◌, [], length, slice_get, None, OnOk, OnErr, IfSome};
+    ghost use Rattle.std.specs.Prelude.{◌≡◌, ◌<◌, ◌≤◌, [], length, slice_get, None, IfOk, OnOk, OnErr, IfSome};
     ghost use Rattle.std.specs.List.{AllByRecursion};
     ghost use Rattle.mr_base.specs.Heads.{cause_of};
     ghost use Rattle.mr_ip.specs.Bodies.{body_of};
@@ -66,6 +66,26 @@ impl LanePackets {
             held: Vec::new(alloc),
             bytes: Vec::new(alloc),
         }
+    }
+
+    /// A lane without packets, with room for so many packets, which have so many bytes together.
+    ///
+    /// # Errors
+    ///
+    /// [`AllocError`] where memory runs out.
+    pub fn with_room(
+        alloc: Global,
+        lane: LaneNo,
+        packets: usize,
+        bytes: usize,
+    ) -> Result<LanePackets, AllocError>
+        ensures { IfOk result (λ l. l ≡ record { lane = lane; packets = [] }) }
+    {
+        Ok(LanePackets {
+            lane,
+            held: Vec::with_capacity(alloc, packets)?,
+            bytes: Vec::with_capacity(alloc, bytes)?,
+        })
     }
 
     /// What is true of every lane's packets. It does nothing.
@@ -126,13 +146,7 @@ impl LanePackets {
     /// # Errors
     ///
     /// [`AllocError`] where memory runs out; then nothing changes.
-    pub(crate) fn push(
-        &mut self,
-        phase: u32,
-        index: u32,
-        dev: u32,
-        bytes: &[u8],
-    ) -> Result<(), AllocError>
+    pub fn push(&mut self, phase: u32, index: u32, dev: u32, bytes: &[u8]) -> Result<(), AllocError>
         requires accepted { cause_of bytes.now ≡ None }
         requires first { 1 ≤ index }
         requires behind { AllByRecursion (IsBefore index phase) self.old.packets }
