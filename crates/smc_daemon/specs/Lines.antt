@@ -17,6 +17,9 @@ driving s = []
 abbrev pub of_daemon : ℕ → ScriptLine → List Line
 of_daemon d l = if l.daemon.0 == d then driving l.script else []
 
--- the lines of a daemon in a phase, in order
+-- those among these that are of a daemon, in order
+abbrev pub lines_among : ℕ → List ScriptLine → List Line
+lines_among d script = flat_map (of_daemon d) script
+
 abbrev pub lines_in : ℕ → Phase → List Line
-lines_in d p = flat_map (of_daemon d) p.script
+lines_in d p = lines_among d p.script

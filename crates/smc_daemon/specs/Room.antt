@@ -9,7 +9,7 @@ use Rattle.mr_scenario.specs.declared.scenario.Phase.{Phase}
 use Rattle.mr_scenario.specs.declared.scenario.Scenario.{Scenario}
 use Rattle.mr_scenario.specs.declared.scenario.Script.{Script}
 use Rattle.mr_scenario.specs.declared.scenario.Script.TheVariants as script
-use Rattle.smc_core.specs.Driving.{smc}
+use Rattle.smc_core.specs.Driving.{Line, Poll, smc}
 use Rattle.smc_daemon.specs.Lines.{lines_in}
 use Rattle.smc_daemon.specs.Machines.{machine_of}
 
@@ -38,6 +38,11 @@ least files scenario = least_from files scenario 1 scenario.daemons
 abbrev pub receives : Script → ℕ
 receives (script.Poll n) = n
 receives s = 0
+
+-- how many reports a line of a machine asks for
+abbrev pub asked_reports : Line → ℕ
+asked_reports (Poll n) = n
+asked_reports l = 0
 
 -- how many receives the polls ask for
 abbrev pub polled : Scenario → ℕ

@@ -1,7 +1,9 @@
-//! What the daemons of a scenario that drive a routing machine do: definitions, and worked rows of
-//! them.
+//! What the daemons of a scenario that drive a routing machine do: definitions, worked rows of
+//! them, and laws of how many entries they make.
 #![tactic(auto)]
 
+mod laws;
 mod worked;
 
+pub use laws::{courses_bound, daemons_bound};
 pub use worked::worked_office;

@@ -1,0 +1,6 @@
+pub mod Besides
+pub mod Bringing
+pub mod Counted
+pub mod Extending
+pub mod Nearness
+pub mod Phases

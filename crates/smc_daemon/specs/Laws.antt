@@ -1,0 +1,41 @@
+-- How many control entries a daemon with a routing machine makes.
+use Rattle.std.specs.Prelude.{◌≡◌, ◌+◌, ◌*◌, ◌≤◌, ℕ, List, [], length, sum_by}
+use Rattle.mr_base.specs.Outside.{Files}
+use Rattle.mr_model.specs.declared.entry.Entry.{Entry}
+use Rattle.mr_scenario.specs.declared.scenario.DaemonKind.TheVariants.{Smc}
+use Rattle.mr_scenario.specs.declared.scenario.Scenario.{Scenario}
+use Rattle.smc_core.specs.Driving.{Answer, Line, smc}
+use Rattle.smc_core.specs.Machine.{Machine}
+use Rattle.smc_daemon.specs.Courses.{DrivesFrom}
+use Rattle.smc_daemon.specs.Deeds.{did}
+use Rattle.smc_daemon.specs.Machines.{machine_of}
+use Rattle.smc_daemon.specs.Reporting.{brought_in}
+use Rattle.smc_daemon.specs.Room.{least_by, asked_reports}
+use Rattle.smc_words.specs.Words.{Word}
+
+-- Whatever a machine is answered, it makes as much as where no receive gives a report,
+abbrev pub LeastOfCourses : Type 0
+LeastOfCourses = (m : Machine) (lines : List Line) (answers : List Answer) → m.learned ≡ []
+    → length (smc m lines []).deeds ≤ length (smc m lines answers).deeds
+
+-- and at most as much more as its reports bring,
+abbrev pub MostOfCourses : Type 0
+MostOfCourses = (m : Machine) (lines : List Line) (answers : List Answer) → m.learned ≡ []
+    → length (smc m lines answers).deeds
+    ≤ length (smc m lines []).deeds + brought_in (smc m lines answers).deeds
+
+-- which is three times the receives that its polls ask for, at most.
+abbrev pub PolledInCourses : Type 0
+PolledInCourses = (m : Machine) (lines : List Line) (answers : List Answer)
+    → brought_in (smc m lines answers).deeds ≤ 3 * sum_by asked_reports lines
+
+-- So is it for a daemon over all phases of a scenario,
+abbrev pub LeastOfDaemons : Type 0
+LeastOfDaemons = (files : Files) (s : Scenario) (d : ℕ) (names : List Word) (h : List Entry)
+    → DrivesFrom d (machine_of files s names) [] s.phases h
+    → least_by files s d (Smc names) ≤ length (did d [] h)
+
+abbrev pub MostOfDaemons : Type 0
+MostOfDaemons = (files : Files) (s : Scenario) (d : ℕ) (names : List Word) (h : List Entry)
+    → DrivesFrom d (machine_of files s names) [] s.phases h
+    → length (did d [] h) ≤ least_by files s d (Smc names) + brought_in (did d [] h)

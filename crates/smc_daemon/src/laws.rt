@@ -1,0 +1,18 @@
+//! Laws of how many control entries a daemon with a routing machine makes.
+
+ghost use Rattle.smc_daemon.specs.Laws.{LeastOfCourses, MostOfCourses, PolledInCourses};
+ghost use Rattle.smc_daemon.specs.Laws.{LeastOfDaemons, MostOfDaemons};
+
+/// A machine makes as much at least as where no receive gives a report, and at most as much more as
+/// its reports bring: three for each receive that its polls ask for.
+pub fn courses_bound()
+    ensures least { LeastOfCourses }
+    ensures most { MostOfCourses }
+    ensures polled { PolledInCourses }
+{}
+
+/// So does a daemon over all phases of its scenario.
+pub fn daemons_bound()
+    ensures least { LeastOfDaemons }
+    ensures most { MostOfDaemons }
+{}
