@@ -14,7 +14,7 @@ use Rattle.mr_model.specs.declared.limits.Limits.{Limits}
 use Rattle.mr_scenario.specs.declared.scenario.Scenario.{Scenario}
 use Rattle.mr_scenario.specs.Fits.{Fits}
 use Rattle.mr_text.specs.Text.{text}
-use Rattle.mr_replay.specs.Text.{history_text}
+use Rattle.mr_tail.specs.Text.{history_text}
 use Rattle.mr_one_text.specs.Bare.{bare}
 use Rattle.mr_one_text.specs.Room.{room}
 use Rattle.mr_one_text.specs.Turns.{turns, TurnsFit}

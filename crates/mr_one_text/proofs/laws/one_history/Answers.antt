@@ -1,6 +1,6 @@
 use Rattle.mr_model.specs.Ending.{ending}
 use Rattle.mr_load.specs.Loading.{run_limits}
-use Rattle.mr_replay.specs.Text.{tail_of}
+use Rattle.mr_tail.specs.Text.{tail_of}
 use Rattle.mr_one_text.proofs.Whole.{one_history}
 use Rattle.mr_one_text.proofs.laws.one_history.Goals as goal
 
