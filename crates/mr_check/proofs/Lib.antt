@@ -1,0 +1,10 @@
+pub mod Lists
+pub mod Packets
+pub mod Sent
+pub mod Agreeing
+pub mod Cutting
+pub mod Flowing
+pub mod Law
+pub mod Running
+pub mod Telling
+pub mod Back

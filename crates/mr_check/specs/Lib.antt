@@ -1,0 +1,4 @@
+pub mod Callers
+pub mod Rules
+pub mod Judging
+pub mod Laws
