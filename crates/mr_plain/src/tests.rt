@@ -48,55 +48,27 @@ fn machine(limits: &Limits, alloc: Global) -> Result<Plain, Fail>
     }
 }
 
-/// Whether an entry is taken.
-fn takes(plain: &mut Plain, entry: Entry) -> Result<bool, Fail> {
-    match plain.step(&entry) {
-        Ok(taken) => Ok(taken),
-        Err(_) => Err(Fail::from("memory")),
-    }
+/// An entry that is stepped through the machine.
+#[derive(Clone, Copy)]
+enum Step {
+    /// A call of a daemon with this reply, which releases these packets.
+    Call(u32, Request, Reply, &'static [ReleasedId]),
+    /// A packet of lane 1 from 10.0.0.9 to 239.1.1.1 with TTL 9 and 28 bytes: its device, its index,
+    /// its look and what became of it.
+    Slow(u32, u32, u32, Outcome),
+    /// `tick MS` of daemon 1.
+    Tick(u32),
+    /// A receive of daemon 1.
+    Recv(Option<MessageId>),
+    Phase,
 }
 
-/// A call with this reply that releases these packets.
-fn call(daemon: u32, request: Request, reply: Reply, released: &[ReleasedId]) -> Entry {
-    Entry::Call {
-        daemon: DaemonNo(daemon),
-        request,
-        reply,
-        released: if released.len() <= 4 {
-            Few::from_slice(released)
-        } else {
-            Few::default()
-        },
-    }
-}
+/// A step, and whether it is taken.
+type Row = (Step, bool);
 
-/// A good call of a daemon that releases nothing.
-fn good(daemon: u32, request: Request) -> Entry {
-    call(daemon, request, Reply::Good, &[])
-}
+const NOBODY: &[ReleasedId] = &[];
 
-/// `addvif INDEX 8 @DEVICE`.
-fn vif(index: u16, device: u32) -> Request {
-    Request::AddVif(VifCtl {
-        vif: index,
-        flags: 8,
-        local: device,
-    })
-}
-
-/// `addmfc 10.0.0.9 239.1.1.1 0 1:1`.
-fn entry() -> Request {
-    let mut ttls = [0; 32];
-    ttls[1] = 1;
-    Request::AddMfc(MfcCtl {
-        src: SENDER,
-        dst: GROUP,
-        parent: 0,
-        ttls,
-    })
-}
-
-/// A packet from 10.0.0.9 with TTL 9 and 28 bytes.
+/// A packet on a device.
 fn flow(dev: u32) -> Flow {
     Flow {
         dev,
@@ -107,113 +79,249 @@ fn flow(dev: u32) -> Flow {
     }
 }
 
-/// A slow packet of lane 1.
-fn slow(dev: u32, index: u32, look: u32, outcome: Outcome) -> Entry {
-    Entry::Slow {
-        lane: LaneNo(1),
-        index,
-        look,
-        flow: flow(dev),
-        outcome,
+/// The entry of a step.
+fn entry_of(step: Step) -> Entry {
+    match step {
+        Step::Call(daemon, request, reply, released) => Entry::Call {
+            daemon: DaemonNo(daemon),
+            request,
+            reply,
+            released: if released.len() <= 4 {
+                Few::from_slice(released)
+            } else {
+                Few::default()
+            },
+        },
+        Step::Slow(dev, index, look, outcome) => Entry::Slow {
+            lane: LaneNo(1),
+            index,
+            look,
+            flow: flow(dev),
+            outcome,
+        },
+        Step::Tick(ms) => Entry::Tick {
+            daemon: DaemonNo(1),
+            ms,
+        },
+        Step::Recv(message) => Entry::Recv {
+            daemon: DaemonNo(1),
+            message,
+        },
+        Step::Phase => Entry::EndPhase,
     }
 }
 
-/// A receive of daemon 1.
-fn receive(message: Option<MessageId>) -> Entry {
-    Entry::Recv {
-        daemon: DaemonNo(1),
-        message,
+/// Whether each step is taken or not, as its row says.
+fn plays(plain: &mut Plain, rows: &[Row]) -> bool {
+    for (step, taken) in rows {
+        let entry = entry_of(*step);
+        match plain.step(&entry) {
+            Ok(answer) => {
+                if answer != *taken {
+                    return false;
+                }
+            }
+            Err(_) => return false,
+        }
     }
+    true
 }
 
-/// The plain forward of the entry that call `number` made.
-fn forward(number: u32) -> Outcome {
-    Outcome::Forward {
-        entry: number,
-        input: Some(0),
-        outs: Mask(2),
-    }
-}
+const INIT: Row = (Step::Call(1, Request::Init, Reply::Good, NOBODY), true);
 
-/// A packet on a wrong interface of entry 5.
-fn wrong(report: Report) -> Outcome {
-    Outcome::Wrong {
-        entry: 5,
-        vif: Some(1),
-        report,
-    }
-}
+/// `addvif 0 8 @1`.
+const VIF_0: Row = (
+    Step::Call(
+        1,
+        Request::AddVif(VifCtl {
+            vif: 0,
+            flags: 8,
+            local: 1,
+        }),
+        Reply::Good,
+        NOBODY,
+    ),
+    true,
+);
 
-/// A released packet of lane 1.
-fn released(index: u32, number: u32) -> ReleasedId {
+/// `addvif 1 8 @2`.
+const VIF_1: Row = (
+    Step::Call(
+        1,
+        Request::AddVif(VifCtl {
+            vif: 1,
+            flags: 8,
+            local: 2,
+        }),
+        Reply::Good,
+        NOBODY,
+    ),
+    true,
+);
+
+/// `addmfc 10.0.0.9 239.1.1.1 0 1:1`.
+const ENTRY: Request = Request::AddMfc(MfcCtl {
+    src: SENDER,
+    dst: GROUP,
+    parent: 0,
+    ttls: [
+        0, 1, 0, 0, 0, 0, 0, 0, 0, 0, 0, 0, 0, 0, 0, 0, 0, 0, 0, 0, 0, 0, 0, 0, 0, 0, 0, 0, 0, 0,
+        0, 0,
+    ],
+});
+
+const PHASE: Row = (Step::Phase, true);
+
+/// The plain forward of the entry that call 13 made.
+const FORWARD: Outcome = Outcome::Forward {
+    entry: 13,
+    input: Some(0),
+    outs: Mask(2),
+};
+
+/// The packets that wait, as call 13 releases them.
+const FOUR: &[ReleasedId] = &[
     ReleasedId {
         lane: LaneNo(1),
-        index,
-        outcome: forward(number),
-    }
-}
+        index: 1,
+        outcome: FORWARD,
+    },
+    ReleasedId {
+        lane: LaneNo(1),
+        index: 2,
+        outcome: FORWARD,
+    },
+    ReleasedId {
+        lane: LaneNo(1),
+        index: 3,
+        outcome: FORWARD,
+    },
+    ReleasedId {
+        lane: LaneNo(1),
+        index: 4,
+        outcome: FORWARD,
+    },
+];
 
-/// `tick MS` of daemon 1.
-fn tick(ms: u32) -> Entry {
-    Entry::Tick {
-        daemon: DaemonNo(1),
-        ms,
-    }
-}
+const THREE: &[ReleasedId] = &[
+    ReleasedId {
+        lane: LaneNo(1),
+        index: 1,
+        outcome: FORWARD,
+    },
+    ReleasedId {
+        lane: LaneNo(1),
+        index: 2,
+        outcome: FORWARD,
+    },
+    ReleasedId {
+        lane: LaneNo(1),
+        index: 3,
+        outcome: FORWARD,
+    },
+];
 
-/// `init` and two vifs.
-fn begin(plain: &mut Plain) -> Result<bool, Fail> {
-    Ok(
-        takes(plain, good(1, Request::Init))?
-            && takes(plain, good(1, vif(0, 1)))?
-            && takes(plain, good(1, vif(1, 2)))?,
-    )
-}
+const FULL: Outcome = Outcome::Dropped(Cause::Packets);
+
+/// The report of the first packet.
+const MISSED: MessageId = MessageId {
+    kind: Kind::NoCache,
+    vif: 0,
+    lane: LaneNo(1),
+    index: 1,
+};
+
+/// Four packets wait and a fifth is dropped; a new entry releases the four.
+const WAITING: &[Row] = &[
+    INIT,
+    VIF_0,
+    VIF_1,
+    PHASE,
+    (Step::Slow(1, 1, 4, Outcome::Parked), true),
+    (Step::Slow(1, 2, 5, Outcome::Parked), true),
+    (Step::Slow(1, 3, 6, Outcome::Parked), true),
+    (Step::Slow(1, 4, 7, Outcome::Parked), true),
+    (Step::Slow(1, 5, 8, Outcome::Parked), false),
+    (Step::Slow(1, 4, 8, FULL), false),
+    (Step::Slow(1, 5, 8, FULL), true),
+    (Step::Slow(1, 6, 9, FULL), false),
+    PHASE,
+    (Step::Recv(None), false),
+    (Step::Recv(Some(MISSED)), true),
+    (Step::Recv(None), true),
+    (Step::Call(1, ENTRY, Reply::Good, THREE), false),
+    (Step::Call(1, ENTRY, Reply::Good, FOUR), true),
+    (
+        Step::Call(
+            1,
+            Request::SgCount {
+                src: SENDER,
+                dst: GROUP,
+            },
+            Reply::Sg(RouteTotals {
+                packets: 4,
+                bytes: 112,
+                wrong: 0,
+            }),
+            NOBODY,
+        ),
+        true,
+    ),
+];
+
+/// A packet on a wrong interface of entry 5, which was reported.
+const TOLD: Outcome = Outcome::Wrong {
+    entry: 5,
+    vif: Some(1),
+    report: Report::Told,
+};
+
+/// One that was not.
+const QUIET: Outcome = Outcome::Wrong {
+    entry: 5,
+    vif: Some(1),
+    report: Report::Quiet,
+};
+
+/// A second report comes when more than three seconds have passed, and no sooner.
+const WRONG: &[Row] = &[
+    INIT,
+    VIF_0,
+    VIF_1,
+    (Step::Call(1, Request::Assert(1), Reply::Good, NOBODY), true),
+    (Step::Call(1, ENTRY, Reply::Good, NOBODY), true),
+    PHASE,
+    (Step::Slow(2, 1, 6, TOLD), true),
+    PHASE,
+    (Step::Tick(3000), true),
+    PHASE,
+    (Step::Slow(2, 2, 10, TOLD), false),
+    (Step::Slow(2, 2, 10, QUIET), true),
+    PHASE,
+    (Step::Tick(1), true),
+    PHASE,
+    (Step::Slow(2, 3, 14, QUIET), false),
+    (Step::Slow(2, 3, 14, TOLD), true),
+];
+
+/// There is no third daemon, and the second one is not the owner.
+const LEAVING: &[Row] = &[
+    INIT,
+    VIF_0,
+    VIF_1,
+    PHASE,
+    (Step::Call(3, ENTRY, Reply::Good, NOBODY), false),
+    (Step::Call(2, ENTRY, Reply::Good, NOBODY), true),
+    (Step::Call(2, Request::Finish, Reply::Good, NOBODY), false),
+    (Step::Call(1, Request::Finish, Reply::Good, NOBODY), true),
+];
 
 #[test]
 fn waiting_packets(rt: HostRuntime) -> Result<(), Fail> {
     let limits = limits(rt.alloc(), 5, &[true])?;
     let mut plain = machine(&limits, rt.alloc())?;
-    let p = &mut plain;
-    assert!(rt; begin(p)?);
-    assert!(rt; takes(p, Entry::EndPhase)?);
-    for index in 1..=4 {
-        assert!(rt; takes(p, slow(1, index, index + 3, Outcome::Parked))?);
-    }
-    assert!(rt; !takes(p, slow(1, 5, 8, Outcome::Parked))?);
-    assert!(rt; !takes(p, slow(1, 4, 8, Outcome::Dropped(Cause::Packets)))?);
-    assert!(rt; takes(p, slow(1, 5, 8, Outcome::Dropped(Cause::Packets)))?);
-    assert!(rt; !takes(p, slow(1, 6, 9, Outcome::Dropped(Cause::Packets)))?);
-    assert!(rt; takes(p, Entry::EndPhase)?);
-    let message = MessageId {
-        kind: Kind::NoCache,
-        vif: 0,
-        lane: LaneNo(1),
-        index: 1,
-    };
-    assert!(rt; !takes(p, receive(None))?);
-    assert!(rt; takes(p, receive(Some(message)))?);
-    assert!(rt; takes(p, receive(None))?);
-    let three = [released(1, 13), released(2, 13), released(3, 13)];
-    let four = [
-        released(1, 13),
-        released(2, 13),
-        released(3, 13),
-        released(4, 13),
-    ];
-    assert!(rt; !takes(p, call(1, entry(), Reply::Good, &three))?);
-    assert!(rt; takes(p, call(1, entry(), Reply::Good, &four))?);
-    let counted = RouteTotals {
-        packets: 4,
-        bytes: 112,
-        wrong: 0,
-    };
-    let asked = Request::SgCount {
-        src: SENDER,
-        dst: GROUP,
-    };
-    assert!(rt; takes(p, call(1, asked, Reply::Sg(counted), &[]))?);
-    assert!(rt; matches!(&p.verdict(&flow(1)), Verdict::Forward { entry: 13, .. }));
+    assert!(rt; plays(&mut plain, WAITING));
+    assert!(rt; matches!(&plain.verdict(&flow(1)), Verdict::Forward { entry: 13, .. }));
     Ok(())
 }
 
@@ -221,22 +329,7 @@ fn waiting_packets(rt: HostRuntime) -> Result<(), Fail> {
 fn wrong_interface(rt: HostRuntime) -> Result<(), Fail> {
     let limits = limits(rt.alloc(), 3, &[true])?;
     let mut plain = machine(&limits, rt.alloc())?;
-    let p = &mut plain;
-    assert!(rt; begin(p)?);
-    assert!(rt; takes(p, good(1, Request::Assert(1)))?);
-    assert!(rt; takes(p, good(1, entry()))?);
-    assert!(rt; takes(p, Entry::EndPhase)?);
-    assert!(rt; takes(p, slow(2, 1, 6, wrong(Report::Told)))?);
-    assert!(rt; takes(p, Entry::EndPhase)?);
-    assert!(rt; takes(p, tick(3000))?);
-    assert!(rt; takes(p, Entry::EndPhase)?);
-    assert!(rt; !takes(p, slow(2, 2, 10, wrong(Report::Told)))?);
-    assert!(rt; takes(p, slow(2, 2, 10, wrong(Report::Quiet)))?);
-    assert!(rt; takes(p, Entry::EndPhase)?);
-    assert!(rt; takes(p, tick(1))?);
-    assert!(rt; takes(p, Entry::EndPhase)?);
-    assert!(rt; !takes(p, slow(2, 3, 14, wrong(Report::Quiet)))?);
-    assert!(rt; takes(p, slow(2, 3, 14, wrong(Report::Told)))?);
+    assert!(rt; plays(&mut plain, WRONG));
     Ok(())
 }
 
@@ -244,16 +337,10 @@ fn wrong_interface(rt: HostRuntime) -> Result<(), Fail> {
 fn owner_leaves(rt: HostRuntime) -> Result<(), Fail> {
     let limits = limits(rt.alloc(), 1, &[true, true])?;
     let mut plain = machine(&limits, rt.alloc())?;
-    let p = &mut plain;
-    assert!(rt; begin(p)?);
-    assert!(rt; takes(p, Entry::EndPhase)?);
-    assert!(rt; !takes(p, good(3, entry()))?);
-    assert!(rt; takes(p, good(2, entry()))?);
-    assert!(rt; !takes(p, good(2, Request::Finish))?);
-    assert!(rt; takes(p, good(1, Request::Finish))?);
+    assert!(rt; plays(&mut plain, LEAVING));
     assert!(rt;
         matches!(
-            &p.verdict(&flow(1)),
+            &plain.verdict(&flow(1)),
             Verdict::Wrong {
                 entry: 5,
                 vif: None
