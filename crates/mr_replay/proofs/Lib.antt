@@ -12,3 +12,5 @@ pub mod Lining
 pub mod Stepping
 pub mod Replaying
 pub mod Slowing
+pub mod Egressing
+pub mod Ending

@@ -1,28 +1,30 @@
 -- What the file that is asked for comes to.
-use Rattle.std.proofs.Common.{◌≡◌, ◌≤◌, ℕ, Bool, true, false, Option, Some, None, Result, Ok, Err, List, ◌++◌, refl, sym, ap, ◌∙◌, arith, subst}
+use Rattle.std.proofs.Common.{◌≡◌, ◌≤◌, ℕ, Bool, true, false, Option, Some, None, Result, Ok, Err, List, ◌++◌, length, refl, sym, ap, ◌∙◌, arith, subst, inl, inr}
 use Rattle.std.proofs.lemmas.Bool.Decides.{nat_tests}
-use Rattle.std.specs.Prelude.{nat_le}
+use Rattle.std.specs.Prelude.{IsOk, nat_le}
 use Rattle.mr_base.specs.Outside.{Files}
 use Rattle.mr_load.specs.Refusals.{if_there, accepted, if_built, scenario_of, loaded}
 use Rattle.mr_load.specs.Told.{IsTold}
 use Rattle.mr_kernel.specs.Values.{KernelValue}
-use Rattle.mr_lines.specs.declared.skip.Skip.{Skip}
 use Rattle.mr_load.specs.Loading.{run_limits}
 use Rattle.mr_base.specs.declared.store_call.StoreCall.{StoreCall}
-use Rattle.mr_load.specs.Faults.{cuts, fails, is_cut, is_fault, reads_of}
+use Rattle.mr_load.specs.Callers.{one_to}
+use Rattle.mr_load.specs.Faults.{HasRead, cuts, fails, is_cut, is_fault, reads_of}
 use Rattle.mr_load.specs.Loads.{IsLoaded, LoadsTo}
 use Rattle.mr_load.specs.Made.{Made}
 use Rattle.mr_load.specs.declared.loading.Loaded.{Loaded}
-use Rattle.mr_model.specs.Ending.{ending}
 use Rattle.mr_model.specs.Legal.{IsLegal}
 use Rattle.mr_model.specs.declared.limits.Limits.{Limits}
-use Rattle.mr_replay.specs.Text.{tail_of}
-use Rattle.mr_scenario.specs.declared.scenario.Named.{Named}
-use Rattle.mr_text.specs.Text.{text}
+use Rattle.mr_tail.specs.Text.{history_text}
 use Rattle.mr_load.specs.Unbuilt.{first_unbuilt}
 use Rattle.mr_load.specs.declared.status.Status.{Status}
-use Rattle.mr_replay.specs.Endings.{file_asked, ReadsFor, RunsTo, Replays, PlaysText}
-use Rattle.mr_replay.specs.Outcomes.{controls_due}
+use Rattle.mr_load.specs.Refusals.{files_read}
+use Rattle.mr_load.specs.declared.status.Status.TheVariants as status
+use Rattle.mr_replay.specs.Egress.{EgressFile, HasWritten, IsOutput, Writing, egress_by, egress_file, egress_files, egress_names, names_of, text_by}
+use Rattle.mr_replay.specs.Endings.{CallsFor, EndsBy, IfStoreFault, ReadsAndWrites, ReadsFor, RunsTo, Replays, file_asked}
+use Rattle.mr_replay.specs.Outcomes.{controls_due, outcome_of}
+use Rattle.mr_model.specs.declared.entry.Entry.{Entry}
+use Rattle.mr_replay.proofs.Egressing.{names_made}
 use Rattle.mr_replay.proofs.Plain.{loaded_scenario}
 use Rattle.mr_scenario.specs.Spelled.{spelled}
 use Rattle.mr_scenario.specs.declared.scenario.Scenario.{Scenario}
@@ -54,48 +56,58 @@ loaded_spelled files file s e =
     let b = bind_ok (if_there file (files file)) scenario_of s (loaded_scenario files file s e) in
     (b.0, there_ok file (files file) b.0 b.1, scenario_spelled b.0 s b.2)
 
-runs_to : (files : Files) (file written : List ℕ) (s : Scenario) → loaded files file ≡ Ok s → controls_due s ≤ s.limits.controls → PlaysText files s written → RunsTo files file written
-runs_to files file written s e room p =
+runs_to : (files : Files) (file : List ℕ) (s : Scenario) (h : List Entry) → loaded files file ≡ Ok s → controls_due s ≤ s.limits.controls → IsLegal (run_limits files s) h → Made files s h → RunsTo files file s h
+runs_to files file s h e room legal made =
     let spelt = loaded_spelled files file s e in
     record {
       bytes = spelt.0;
-      scenario = s;
-      history = p.history;
       stored = spelt.1;
       spells = spelt.2;
       built = e;
       room = room;
-      legal = p.legal;
-      made = p.made;
-      text_is = p.text_is;
+      legal = legal;
+      made = made;
     }
 
 -- a test that let pass
 pub roomy : (b : Bool) (due most : ℕ) → b ≡ true → b ≡ nat_le due most → due ≤ most
 roomy b due most e same = grind (arith, nat_tests, e, same)
 
-pub replays : (words : List (List ℕ)) (told : Option Files) (files : Files) (file written : List ℕ) (s : Scenario) (IsTaken : List ℕ → Type 0)
-    → file_asked words ≡ Some file → IsTold told files → loaded files file ≡ Ok s → controls_due s ≤ s.limits.controls → PlaysText files s written → IsTaken written
-    → Replays words told IsTaken
-replays words told files file written s IsTaken asked told_is e room p taken = record {
-  files = files;
-  file = file;
-  text = written;
-  asked = record { asked = asked; told_is = told_is };
-  run = runs_to files file written s e room p;
-  taken = taken;
-}
-
--- the text of the machine's history is that of what was loaded
-pub plays : (files : Files) (l : Loaded) (k : KernelValue) (written : List ℕ) (skips : List Skip) (devices : List Named) → IsLoaded files l → k.limits ≡ l.limits → IsLegal k.limits k.history → Made files l.scenario k.history
-    → skips ≡ l.skips → devices ≡ l.scenario.devices → written ≡ text skips k.history (tail_of devices (ending k.limits k.history)) → PlaysText files l.scenario written
-plays files l k written skips devices i limits legal made same_skips same_devices is =
+-- what a machine gives that has run what was loaded
+text_given : (files : Files) (l : Loaded) (k : KernelValue) → IsLoaded files l → k.limits ≡ l.limits → text_by l k ≡ history_text files l.scenario k.history
+text_given files l k i limits =
     let run : k.limits ≡ run_limits files l.scenario = limits ∙ i.limits in
+    rw (i.skips, run) refl
+
+egress_given : (files : Files) (l : Loaded) (k : KernelValue) → IsLoaded files l → k.limits ≡ l.limits → egress_by l k ≡ egress_files files l.scenario k.history
+egress_given files l k i limits =
+    let run : k.limits ≡ run_limits files l.scenario = limits ∙ i.limits in
+    rw (i.lanes, run) refl
+
+-- The file asked for was loaded, and a machine has run it.
+pub record HasRun (words : List (List ℕ)) (told : Option Files) (files : Files) (file : List ℕ) (l : Loaded) (k : KernelValue) : Type 0 where
+  pub asked : file_asked words ≡ Some file
+  pub told_is : IsTold told files
+  pub loads : loaded files file ≡ Ok l.scenario
+  pub is : IsLoaded files l
+  pub room : controls_due l.scenario ≤ l.scenario.limits.controls
+  pub limits : k.limits ≡ l.limits
+  pub legal : IsLegal k.limits k.history
+  pub made : Made files l.scenario k.history
+
+pub replays : (words : List (List ℕ)) (told : Option Files) (files : Files) (file : List ℕ) (l : Loaded) (k : KernelValue) (IsWritten : List ℕ → List EgressFile → Type 0)
+    → HasRun words told files file l k → IsWritten (text_by l k) (egress_by l k) → Replays words told IsWritten
+replays words told files file l k IsWritten r written =
+    let run : k.limits ≡ run_limits files l.scenario = r.limits ∙ r.is.limits in
     record {
+      files = files;
+      file = file;
+      scenario = l.scenario;
       history = k.history;
-      legal = subst (λ (x : Limits). IsLegal x k.history) run legal;
-      made = made;
-      text_is = is ∙ rw (same_skips, i.skips, same_devices, run) refl;
+      asked = record { asked = r.asked; told_is = r.told_is };
+      run = runs_to files file l.scenario k.history r.loads r.room (subst (λ (x : Limits). IsLegal x k.history) run r.legal) r.made;
+      written = subst (λ (t : List ℕ). IsWritten t (egress_files files l.scenario k.history)) (text_given files l k r.is r.limits)
+          (subst (IsWritten (text_by l k)) (egress_given files l k r.is r.limits) written);
     }
 
 -- what loading read is what the run read
@@ -113,9 +125,69 @@ loads_read told file r s old new l whole same = record {
   };
 }
 
-some_same : (a b : List ℕ) → ◌≡◌ {A = Option (List ℕ)} (Some a) (Some b) → a ≡ b
+-- the store's calls of a run that loaded, behind which the text and the files are written
+pub calls_written : (told : Option Files) (file : List ℕ) (files : Files) (l : Loaded) (k : KernelValue) (s : Status) (old between new : List StoreCall) → IsTold told files → loaded files file ≡ Ok l.scenario
+    → HasRead (files_read files file) false false old between → Writing (names_of (egress_by l k)) s between new → IsOutput s → CallsFor told file s old new
+calls_written told file files l k s old between new told_is e reads writing is = by_status s is writing
+  where
+    names : names_of (egress_by l k) ≡ egress_names l.scenario
+    names = names_made (egress_file k.limits l.lanes l.scenario.devices k.history) (one_to (length l.scenario.devices))
+
+    wrote : (t : Status) → HasWritten (names_of (egress_by l k)) (cuts t) (fails t) between new → ReadsAndWrites told file t old new
+    wrote t w = record {
+      files = files;
+      told_is = told_is;
+      scenario = l.scenario;
+      scenario_is = e;
+      between = between;
+      reads = reads;
+      writes = subst (λ (ns : List (List ℕ)). HasWritten ns (cuts t) (fails t) between new) names w;
+    }
+
+    by_status : (t : Status) → IsOutput t → Writing (names_of (egress_by l k)) t between new → CallsFor told file t old new
+    by_status status.Good o w = wrote status.Good w
+    by_status status.Memory o w = inr (wrote status.Memory w)
+    by_status (status.StoreFault name) o w = inr (wrote (status.StoreFault name) w)
+    by_status status.SinkFault o w = record { files = files; told_is = told_is; reads = subst (HasRead (files_read files file) false false old) (sym w) reads }
+    by_status status.Usage o w = absurd o
+    by_status (status.Scenario line kind text) o w = absurd o
+    by_status (status.Trace name cause) o w = absurd o
+    by_status status.ControlFull o w = absurd o
+    by_status (status.NotBuilt line) o w = absurd o
+
+-- the store's calls of a run that read alone
+pub calls_read : (told : Option Files) (file : List ℕ) (s : Status) (old new : List StoreCall) → (s ≡ status.Good → ⊥) → ReadsFor told file s old new → CallsFor told file s old new
+calls_read told file status.Good old new never r = absurd (never refl)
+calls_read told file status.Memory old new never r = inl r
+calls_read told file (status.StoreFault name) old new never r = inl r
+calls_read told file status.SinkFault old new never r = r
+calls_read told file status.Usage old new never r = r
+calls_read told file (status.Scenario line kind text) old new never r = r
+calls_read told file (status.Trace name cause) old new never r = r
+calls_read told file status.ControlFull old new never r = r
+calls_read told file (status.NotBuilt line) old new never r = r
+
+pub some_same : (a b : List ℕ) → ◌≡◌ {A = Option (List ℕ)} (Some a) (Some b) → a ≡ b
 some_same a b e = cc
 
-pub asked_reads : (words : List (List ℕ)) (told : Option Files) (asked : List ℕ) (s : Status) (old new : List StoreCall) → file_asked words ≡ Some asked → ReadsFor told asked s old new
-    → (file : List ℕ) → file_asked words ≡ Some file → ReadsFor told file s old new
-asked_reads words told asked s old new e r file f = subst (λ (name : List ℕ). ReadsFor told name s old new) (some_same asked file (sym e ∙ f)) r
+pub asked_calls : (words : List (List ℕ)) (told : Option Files) (asked : List ℕ) (s : Status) (old new : List StoreCall) → file_asked words ≡ Some asked → CallsFor told asked s old new
+    → (file : List ℕ) → file_asked words ≡ Some file → CallsFor told file s old new
+asked_calls words told asked s old new e r file f = subst (λ (name : List ℕ). CallsFor told name s old new) (some_same asked file (sym e ∙ f)) r
+
+-- where the outside did not fail, a run that loaded and wrote ends as it should
+pub ends : (s : Status) (t : Scenario) (outcome : Result Scenario Status) → IsOutput s → outcome ≡ Ok t → (s ≡ status.SinkFault → ⊥) → IfStoreFault s (λ _. ⊥) → EndsBy s outcome
+ends status.Good t outcome o e sink store = subst IsOk (sym e) refl
+ends status.Memory t outcome o e sink store = tt
+ends (status.StoreFault name) t outcome o e sink store = store
+ends status.SinkFault t outcome o e sink store = sink refl
+ends status.Usage t outcome o e sink store = absurd o
+ends (status.Scenario line kind text) t outcome o e sink store = absurd o
+ends (status.Trace name cause) t outcome o e sink store = absurd o
+ends status.ControlFull t outcome o e sink store = absurd o
+ends (status.NotBuilt line) t outcome o e sink store = absurd o
+
+-- what the file comes to, where the store tells
+pub outcome_is : (told : Option Files) (files its : Files) (file : List ℕ) (s : Scenario) → IsTold told files → told ≡ Some its → loaded files file ≡ Ok s → nat_le (controls_due s) s.limits.controls ≡ true → outcome_of its file ≡ Ok s
+outcome_is told files its file s t e l room =
+    let same : its ≡ files = subst (λ (o : Option Files). IsTold o files) e t in
+    rw (same, l, room) refl

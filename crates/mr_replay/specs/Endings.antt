@@ -1,5 +1,5 @@
 -- How a run may end, and what each status says.
-use Rattle.std.specs.Prelude.{◌≡◌, ◌≤◌, ℕ, ◌&&◌, Bool, true, false, not, nat_lt, nat_le, if◌then◌else◌, Option, Some, None, Result, Ok, Err, IsOk, Contains, List, [], ◌∷◌, length, bytes_eq, codes, take}
+use Rattle.std.specs.Prelude.{◌≡◌, ◌⊎◌, ◌≤◌, ℕ, ◌&&◌, Bool, true, false, not, nat_lt, nat_le, if◌then◌else◌, Option, Some, None, Result, Ok, Err, IsOk, Contains, List, [], ◌∷◌, length, bytes_eq, codes, take}
 use Rattle.mr_base.specs.Outside.{Files}
 use Rattle.mr_model.specs.declared.entry.Entry.{Entry}
 use Rattle.mr_model.specs.Legal.{IsLegal}
@@ -9,6 +9,7 @@ use Rattle.mr_load.specs.declared.status.Status.TheVariants as status
 use Rattle.mr_load.specs.declared.status.TraceCause.{TraceCause}
 use Rattle.mr_scenario.specs.declared.stop.Kind.{Kind}
 use Rattle.mr_scenario.specs.Spelled.{spelled}
+use Rattle.mr_replay.specs.Egress.{EgressFile, HasWritten, egress_files, egress_names}
 use Rattle.mr_replay.specs.Outcomes.{controls_due, outcome_of}
 use Rattle.mr_base.specs.declared.store_call.StoreCall.{StoreCall}
 use Rattle.mr_load.specs.Faults.{HasRead, cuts, fails}
@@ -17,7 +18,7 @@ use Rattle.mr_load.specs.Loading.{run_limits}
 use Rattle.mr_load.specs.Made.{Made}
 use Rattle.mr_load.specs.Refusals.{files_read}
 use Rattle.mr_load.specs.Told.{IsTold}
-use Rattle.mr_replay.specs.Text.{history_text}
+use Rattle.mr_tail.specs.Text.{history_text}
 
 -- a word that may name a file: 1 to 255 bytes, which do not begin with `out-`
 abbrev pub is_file_word : List ℕ → Bool
@@ -28,33 +29,31 @@ abbrev pub file_asked : List (List ℕ) → Option (List ℕ)
 file_asked (command ∷ file ∷ []) = if bytes_eq command (codes "replay") && is_file_word file then Some file else None
 file_asked _ = None
 
--- The bytes of the file spell a scenario whose form is built and whose daemons' lines have room. The text is that of a legal
--- history of it, and the history has what the scenario asks.
-pub record RunsTo (files : Files) (file text : List ℕ) : Type 0 where
+-- The bytes of the file spell a scenario whose form is built and whose daemons' lines have room. The history is a legal one of it, and
+-- has what the scenario asks.
+pub record RunsTo (files : Files) (file : List ℕ) (scenario : Scenario) (history : List Entry) : Type 0 where
   pub bytes : List ℕ
-  pub scenario : Scenario
-  pub history : List Entry
   pub stored : files file ≡ Some bytes
   pub spells : spelled bytes ≡ Ok scenario
   pub built : loaded files file ≡ Ok scenario
   pub room : controls_due scenario ≤ scenario.limits.controls
   pub legal : IsLegal (run_limits files scenario) history
   pub made : Made files scenario history
-  pub text_is : text ≡ history_text files scenario history
 
 -- The words ask for this file, and these are the files of the store.
 pub record IsAsked (words : List (List ℕ)) (told : Option Files) (files : Files) (file : List ℕ) : Type 0 where
   pub asked : file_asked words ≡ Some file
   pub told_is : IsTold told files
 
--- The file asked for runs to a text, and so much of the text is taken.
-pub record Replays (words : List (List ℕ)) (told : Option Files) (IsTaken : List ℕ → Type 0) : Type 0 where
+-- The file asked for runs to one history, and so much is written of its text and of its egress files.
+pub record Replays (words : List (List ℕ)) (told : Option Files) (IsWritten : List ℕ → List EgressFile → Type 0) : Type 0 where
   pub files : Files
   pub file : List ℕ
-  pub text : List ℕ
+  pub scenario : Scenario
+  pub history : List Entry
   pub asked : IsAsked words told files file
-  pub run : RunsTo files file text
-  pub taken : IsTaken text
+  pub run : RunsTo files file scenario history
+  pub written : IsWritten (history_text files scenario history) (egress_files files scenario history)
 
 -- The file asked for comes to this status.
 pub record ComesTo (words : List (List ℕ)) (told : Option Files) (s : Status) : Type 0 where
@@ -70,11 +69,18 @@ pub record IsToRead (words : List (List ℕ)) (told : Option Files) (name : List
   pub asked : IsAsked words told files file
   pub read : Contains (files_read files file) name
 
--- the statuses with which nothing is written
+-- the statuses with which nothing is ever written
 abbrev pub is_silent : Status → Bool
 is_silent status.Good = false
+is_silent (status.StoreFault name) = false
 is_silent status.SinkFault = false
+is_silent status.Memory = false
 is_silent _ = true
+
+-- the statuses with which no file is ever written
+abbrev pub keeps_files : Status → Bool
+keeps_files status.SinkFault = true
+keeps_files s = is_silent s
 
 -- The store's calls are the reads of the scenario and of the traces that it names, each once and in their order: all of them, or, where a
 -- read failed or memory ran out, the first of them. The last read failed exactly with StoreFault.
@@ -82,6 +88,25 @@ pub record ReadsFor (told : Option Files) (file : List ℕ) (s : Status) (old ne
   pub files : Files
   pub told_is : IsTold told files
   pub reads : HasRead (files_read files file) (cuts s) (fails s) old new
+
+-- The store's calls are all those reads, and then the writes of the egress files, each once and in the order of the devices: all of
+-- them, or, where a write failed or memory ran out, the first of them. The last write failed exactly with StoreFault.
+pub record ReadsAndWrites (told : Option Files) (file : List ℕ) (s : Status) (old new : List StoreCall) : Type 0 where
+  pub files : Files
+  pub told_is : IsTold told files
+  pub scenario : Scenario
+  pub scenario_is : loaded files file ≡ Ok scenario
+  pub between : List StoreCall
+  pub reads : HasRead (files_read files file) false false old between
+  pub writes : HasWritten (egress_names scenario) (cuts s) (fails s) between new
+
+-- The store's calls, by the status: where memory ran out or a call failed, it was while reading or while writing.
+abbrev pub CallsFor : Option Files → List ℕ → Status → List StoreCall → List StoreCall → Type 0
+CallsFor told file status.Good old new = ReadsAndWrites told file status.Good old new
+CallsFor told file status.Memory old new = ReadsFor told file status.Memory old new ⊎ ReadsAndWrites told file status.Memory old new
+CallsFor told file (status.StoreFault name) old new =
+    ReadsFor told file (status.StoreFault name) old new ⊎ ReadsAndWrites told file (status.StoreFault name) old new
+CallsFor told file s old new = ReadsFor told file s old new
 
 -- a fact for each status
 abbrev pub IfScenario : Status → (ℕ → Kind → List ℕ → Type 0) → Type 0
@@ -99,13 +124,6 @@ IfNotBuilt _ P = Unit {0}
 abbrev pub IfStoreFault : Status → (List ℕ → Type 0) → Type 0
 IfStoreFault (status.StoreFault file) P = P file
 IfStoreFault _ P = Unit {0}
-
--- A scenario comes to the text of a legal history of it, which has what the scenario asks.
-pub record PlaysText (files : Files) (scenario : Scenario) (written : List ℕ) : Type 0 where
-  pub history : List Entry
-  pub legal : IsLegal (run_limits files scenario) history
-  pub made : Made files scenario history
-  pub text_is : written ≡ history_text files scenario history
 
 -- Where no call of the outside failed, a run ends by what its file comes to: Good where that is a scenario that is run, else by
 -- the status. Memory may run out.

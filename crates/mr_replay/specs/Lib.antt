@@ -1,5 +1,5 @@
 pub mod Outcomes
-pub mod Text
+pub mod Egress
 pub mod Endings
 pub mod Running
 pub mod Lanes

@@ -1,11 +1,13 @@
-//! The top call: a scenario is read, run over the one-thread machine, and written as its history.
+//! The top call: a scenario is read, run over the one-thread machine, and written as its history and
+//! its egress files.
 #![tactic(auto)]
 
 mod calling;
+mod egress;
+mod outputs;
 mod room;
 mod running;
 mod sending;
-mod tail;
 #[cfg(test)]
 mod tests;
 mod top;

@@ -1,23 +1,21 @@
 //! The top call.
 
 ghost use Rattle.std.specs.Prelude.{ℕ, List, ◌≡◌, ◌⊎◌, ◌↔◌, ◌≤◌, length, map, string_bytes};
-ghost use Rattle.std.specs.Prelude.{MatchOption, IfOk, IfSome, None, Some, true};
+ghost use Rattle.std.specs.Prelude.{MatchOption, IfSome, None, Some, true};
 ghost use Rattle.mr_base.specs.Outside.{Files, Rose, AllStay, Takes, TakesPrefix};
+ghost use Rattle.mr_replay.specs.Egress.{Stores, StoresFirst, StopsAt, failed_write};
 ghost use Rattle.mr_replay.specs.Endings.{is_file_word, file_asked, Replays, ComesTo, IsToRead};
-ghost use Rattle.mr_replay.specs.Endings.{PlaysText, is_silent, ReadsFor, EndsBy};
+ghost use Rattle.mr_replay.specs.Endings.{CallsFor, EndsBy, is_silent, keeps_files};
 ghost use Rattle.mr_replay.specs.Endings.{IfScenario, IfTrace, IfNotBuilt, IfStoreFault};
 ghost use Rattle.mr_load.specs.Faults.{failed_read};
-ghost use Rattle.mr_load.specs.Loads.{IsLoaded};
 ghost use Rattle.mr_replay.specs.Outcomes.{outcome_of};
-ghost use Rattle.mr_replay.specs.Running.{CanRun};
 ghost use Rattle.mr_load.specs.declared.status.Status.TheVariants as status;
 
+use crate::outputs::write_outputs;
 use crate::room::has_room;
 use crate::running::run_loaded;
-use crate::writing::write_run;
 use mr_base::{Clock, Door, Gate, Memory, Sink, Store};
-use mr_lines::Skip;
-use mr_load::{Loaded, Status, devices_of, load};
+use mr_load::{Status, load};
 use std::alloc::Global;
 use std::sync::Wait;
 use std::thread::Threads;
@@ -49,50 +47,18 @@ fn file_asked(words: &[String]) -> Option<&str>
     }
 }
 
-/// The skips of what was loaded.
-fn skips_of(loaded: &Loaded) -> &[Skip]
-    ensures { result.now ≡ loaded.now.skips }
-{
-    loaded.skips.0.as_slice()
-}
-
-/// The text of the history to which a loaded scenario comes.
-fn history_of(alloc: Global, loaded: &Loaded) -> Result<Vec<u8>, Memory>
-    requires { CanRun loaded.now }
-    ensures { IfOk result (λ v. (files : Files) →
-        IsLoaded files loaded.now → PlaysText files loaded.now.scenario v.items) }
-{
-    let kernel = run_loaded(alloc, loaded)?;
-    kernel.facts();
-    let skips = skips_of(loaded);
-    let text = write_run(alloc, skips, devices_of(&loaded.scenario), &kernel)?;
-    Ok(text)
-}
-
-/// Hands the history's text to the sink.
-fn put<K: Sink>(out: &mut K, text: &[u8]) -> Status
-    ensures good { result ≡ status.Good → Takes (K.taken out.old) text.now (K.taken out.new) }
-    ensures fault { result ≡ status.SinkFault → Rose (K.faults out.old) (K.faults out.new) }
-    ensures cut { result ≡ status.SinkFault →
-        TakesPrefix (K.taken out.old) text.now (K.taken out.new) }
-    ensures only { (result ≡ status.Good) ⊎ (result ≡ status.SinkFault) }
-{
-    match out.put(text) {
-        Ok(()) => Status::Good,
-        Err(_) => Status::SinkFault,
-    }
-}
-
 /// Runs the command that `words` (those after the program's name) spell: `replay SCENARIO` reads the
-/// scenario of that name from the store, runs it and writes the text of its history to `out`. Other
-/// words are `Usage`.
+/// scenario of that name from the store, runs it, writes the text of its history to `out`, and then
+/// for each device, in their order, its egress trace to the store as `out-NAME.pcap`. Other words
+/// are `Usage`.
 ///
 /// The statuses in their order: `Usage`; those of loading, which are `StoreFault`, where the scenario
 /// cannot be read, `Scenario` with its first bad line, `NotBuilt` with the first line whose form is
 /// not built yet, and then for each trace that lines name, in the order of first naming,
 /// `StoreFault` and `Trace`; `ControlFull`, where the daemons' lines are more than the scenario's
-/// limit; `SinkFault`. `Memory` may come wherever memory is taken. With any but `Good` and
-/// `SinkFault` nothing is written.
+/// limit; `SinkFault`, with which no file is written; `StoreFault` of an egress file, with which
+/// those behind it are not written. `Memory` may come wherever memory is taken: before the text, or
+/// between one egress file and the next.
 ///
 /// The runtime, the door, the clock and the gate are not asked yet.
 pub fn run<R: Wait + Threads + Sync, S: Store, K: Sink, D: Door, C: Clock, G: Gate + Sync>(
@@ -108,10 +74,11 @@ pub fn run<R: Wait + Threads + Sync, S: Store, K: Sink, D: Door, C: Clock, G: Ga
     // The words are not `replay SCENARIO`, with a file word.
     ensures usage { (result ≡ status.Usage) ↔ (file_asked (map string_bytes words.now) ≡ None) }
     // The sink took the text of a legal history of the scenario that the file spells, with what that
-    // asks in its order.
+    // asks in its order, and the store has the egress files of that history and no other change.
     ensures good { result ≡ status.Good →
-        Replays (map string_bytes words.now) (S.told store.old)
-        (λ text. Takes (K.taken out.old) text (K.taken out.new)) }
+        Replays (map string_bytes words.now) (S.told store.old) (λ text egress.
+        Takes (K.taken out.old) text (K.taken out.new)
+        × Stores egress (S.told store.old) (S.told store.new)) }
     // The first bad line of the file, what is wrong with it, and how it begins.
     ensures scenario { IfScenario result (λ line kind text.
         ComesTo (map string_bytes words.now) (S.told store.old) (status.Scenario line kind text)) }
@@ -124,17 +91,34 @@ pub fn run<R: Wait + Threads + Sync, S: Store, K: Sink, D: Door, C: Clock, G: Ga
     // The lines of the daemons are more than the limit on control entries.
     ensures control_full { result ≡ status.ControlFull →
         ComesTo (map string_bytes words.now) (S.told store.old) status.ControlFull }
-    // A file that was to be read, whose read failed, and the store's count rose.
-    ensures store_fault { IfStoreFault result (λ name.
-        IsToRead (map string_bytes words.now) (S.told store.old) name) }
-    ensures store_last { IfStoreFault result (λ name. S.last store.new ≡ failed_read name) }
+    // The store's last call failed, and its count rose: the read of this file, or its write.
+    ensures store_last { IfStoreFault result (λ name.
+        (S.last store.new ≡ failed_read name) ⊎ (S.last store.new ≡ failed_write name)) }
     ensures store_rose { IfStoreFault result (λ _. Rose (S.faults store.old) (S.faults store.new)) }
+    // Where it was the read, the file was to be read, and nothing is written.
+    ensures read_fault { IfStoreFault result (λ name. S.last store.new ≡ failed_read name →
+        IsToRead (map string_bytes words.now) (S.told store.old) name) }
+    ensures read_fault_silent { IfStoreFault result (λ name.
+        S.last store.new ≡ failed_read name → out.new ≡ out.old) }
+    ensures read_fault_files { IfStoreFault result (λ name.
+        S.last store.new ≡ failed_read name → AllStay (S.told store.old) (S.told store.new)) }
+    // Where it was the write, the text is written whole, and the egress files before this one.
+    ensures write_fault { IfStoreFault result (λ name. S.last store.new ≡ failed_write name →
+        Replays (map string_bytes words.now) (S.told store.old) (λ text egress.
+        Takes (K.taken out.old) text (K.taken out.new)
+        × StopsAt name egress (S.told store.old) (S.told store.new))) }
     // What was taken is a prefix of the text that Good would have written, and the sink's count
     // rose.
     ensures sink_fault { result ≡ status.SinkFault →
         Replays (map string_bytes words.now) (S.told store.old)
-        (λ text. TakesPrefix (K.taken out.old) text (K.taken out.new)) }
+        (λ text egress. TakesPrefix (K.taken out.old) text (K.taken out.new)) }
     ensures sink_rose { result ≡ status.SinkFault → Rose (K.faults out.old) (K.faults out.new) }
+    // Where memory ran out nothing is written, or the text whole and the first egress files.
+    ensures memory { result ≡ status.Memory →
+        ((out.new ≡ out.old) × AllStay (S.told store.old) (S.told store.new))
+        ⊎ Replays (map string_bytes words.now) (S.told store.old) (λ text egress.
+        Takes (K.taken out.old) text (K.taken out.new)
+        × StoresFirst egress (S.told store.old) (S.told store.new)) }
     // Over a store that tells, and where no count of faults rose, its files decide the status.
     ensures complete { (files : Files) (file : List ℕ) →
         file_asked (map string_bytes words.now) ≡ Some file →
@@ -142,13 +126,13 @@ pub fn run<R: Wait + Threads + Sync, S: Store, K: Sink, D: Door, C: Clock, G: Ga
         (Rose (S.faults store.old) (S.faults store.new) → ⊥) →
         (Rose (K.faults out.old) (K.faults out.new) → ⊥) →
         EndsBy result (outcome_of files file) }
-    // With the other statuses nothing is written, and no file ever changes.
+    // With the other statuses nothing is written, and without the text no file changes.
     ensures silent { is_silent result ≡ true → out.new ≡ out.old }
-    ensures files { AllStay (S.told store.old) (S.told store.new) }
-    // The file asked for and the traces that it names are read, each once; the last read failed
-    // exactly with StoreFault.
-    ensures reads { (file : List ℕ) → file_asked (map string_bytes words.now) ≡ Some file →
-        ReadsFor (S.told store.old) file result (S.calls store.old) (S.calls store.new) }
+    ensures files { keeps_files result ≡ true → AllStay (S.told store.old) (S.told store.new) }
+    // The file asked for and the traces that it names are read, each once, and then the egress files
+    // written, each once; the last call failed exactly with StoreFault.
+    ensures calls { (file : List ℕ) → file_asked (map string_bytes words.now) ≡ Some file →
+        CallsFor (S.told store.old) file result (S.calls store.old) (S.calls store.new) }
     // With other words the store is not asked; the door and the clock never are.
     ensures unasked { result ≡ status.Usage → store.new ≡ store.old }
     ensures door { _door.new ≡ _door.old }
@@ -164,8 +148,11 @@ pub fn run<R: Wait + Threads + Sync, S: Store, K: Sink, D: Door, C: Clock, G: Ga
     if !has_room(&loaded.scenario) {
         return Status::ControlFull;
     }
-    match history_of(alloc, &loaded) {
-        Ok(text) => put(out, text.as_slice()),
+    match run_loaded(alloc, &loaded) {
+        Ok(kernel) => {
+            kernel.facts();
+            write_outputs(alloc, &loaded, &kernel, store, out)
+        }
         Err(Memory) => Status::Memory,
     }
 }

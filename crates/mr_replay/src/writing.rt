@@ -4,10 +4,9 @@ ghost use Rattle.std.specs.Prelude.{◌≡◌, ◌++◌, ◌∷◌, [], length, 
 ghost use Rattle.mr_history.specs.Seen.{entry_seen};
 ghost use Rattle.mr_lines.specs.declared.line.Line.TheVariants as line;
 ghost use Rattle.mr_model.specs.Ending.{ending};
-ghost use Rattle.mr_replay.specs.Text.{tail_of};
+ghost use Rattle.mr_tail.specs.Text.{tail_of};
 ghost use Rattle.mr_text.specs.Text.{line_text, entry_lines, entries_lines, text};
 
-use crate::tail::tail_of;
 use mr_base::{LaneNo, Memory};
 use mr_history::{EntryView, Journal, Records};
 use mr_kernel::Kernel;
@@ -17,6 +16,7 @@ use mr_print::{
 };
 use mr_records::{Ways, write_record};
 use mr_scenario::Named;
+use mr_tail::tail_of;
 use mr_text::{write_call_lines, write_skips, write_tail};
 use std::alloc::{AllocError, Global};
 

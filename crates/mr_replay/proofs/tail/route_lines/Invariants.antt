@@ -1,6 +1,0 @@
-use Rattle.std.proofs.Common.{◌≡◌, ◌++◌, drop, map}
-use Rattle.mr_replay.specs.Text.{route_line}
-use Rattle.mr_replay.proofs.tail.route_lines.Given as goal
-
-abbrev pub invariant-loop-route : goal.invariant-loop-route
-invariant-loop-route l = l.lines.items ++ map route_line (drop l.route-index l.routes) ≡ map route_line l.routes

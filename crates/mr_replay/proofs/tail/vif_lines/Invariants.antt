@@ -1,6 +1,0 @@
-use Rattle.std.proofs.Common.{◌≡◌, ◌++◌, drop, map}
-use Rattle.mr_replay.specs.Text.{vif_line}
-use Rattle.mr_replay.proofs.tail.vif_lines.Given as goal
-
-abbrev pub invariant-loop-vif : goal.invariant-loop-vif
-invariant-loop-vif l = l.lines.items ++ map (vif_line l.devices) (drop l.vif-index l.vifs) ≡ map (vif_line l.devices) l.vifs
