@@ -6,6 +6,8 @@ mod forwarded;
 #[cfg(test)]
 mod tests;
 #[cfg(test)]
+mod tests_egress;
+#[cfg(test)]
 mod tests_lanes;
 #[cfg(test)]
 mod tests_refused;

@@ -134,6 +134,35 @@ fn reason<R: Files>(rt: &R, file: &str) -> &'static str {
     }
 }
 
+/// Why an egress file could not be written, as far as it can be seen now.
+fn write_reason<R: Files>(rt: &R, file: &str) -> &'static str {
+    match fs::metadata(rt, file) {
+        Err(_) => "it cannot be made in this folder",
+        Ok(data) => {
+            if data.is_dir() {
+                "it is a folder"
+            } else {
+                "there is no permission or no space"
+            }
+        }
+    }
+}
+
+/// Shows a file whose read or write failed. Only egress files are written, and no file that is read
+/// has a name like theirs.
+fn explain_fault<R: Files + Eprint>(rt: &R, name: &str) -> io::Result<()> {
+    if name.as_bytes().starts_with(b"out-") {
+        let why = write_reason(rt, name);
+        return eprintln!(rt;
+            "{name}: cannot be written: {why} (the history is written whole, and the egress files before this one)"
+        );
+    }
+    let why = reason(rt, name);
+    eprintln!(rt;
+        "{name}: cannot be read: {why} (a file of at most {LONGEST_FILE} bytes was expected)"
+    )
+}
+
 /// Why a file is refused as a trace, with what was expected.
 fn explain_trace<R: Eprint>(rt: &R, name: &str, cause: TraceCause) -> io::Result<()> {
     match cause {
@@ -192,15 +221,11 @@ pub fn explain<R: Files + AllocGlobal + Eprint>(
         }
         Status::NotBuilt { line } => explain_line(rt, file, *line),
         Status::Trace { file, cause } => explain_trace(rt, file.as_str(), *cause),
-        Status::StoreFault { file } => {
-            let name = file.as_str();
-            let why = reason(rt, name);
-            eprintln!(rt;
-                "{name}: cannot be read: {why} (a file of at most {LONGEST_FILE} bytes was expected)"
-            )
-        }
+        Status::StoreFault { file } => explain_fault(rt, file.as_str()),
         Status::SinkFault => eprintln!(rt; "standard output did not take the whole history"),
-        Status::Memory => eprintln!(rt; "memory ran out, and nothing was written"),
+        Status::Memory => eprintln!(rt;
+            "memory ran out: nothing was written, or the history and the first egress files"
+        ),
         Status::ControlFull => {
             eprintln!(rt;
                 "{file}: the daemons' lines are more than the history may hold ('limit control N' with a greater N was expected, or fewer lines; {DEFAULT_CONTROLS} where it is not given)"

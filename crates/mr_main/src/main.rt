@@ -1,4 +1,5 @@
-//! The program: `replay SCENARIO` runs the scenario of that file and prints its history.
+//! The program: `replay SCENARIO` runs the scenario of that file, prints its history and writes an
+//! egress trace for each device.
 //!
 //! It ends with the number of the run's status, and where that is not 0 it prints one line on standard error.
 #![tactic(auto)]
