@@ -252,15 +252,15 @@ line_keeps d [] k = k
 line_keeps d (w ∷ ws) k =
     one_of (bytes_eq w (codes "phyint")) (bytes_eq w (codes "mgroup")) (bytes_eq w (codes "mroute")) d ws k
 
-good_line : (n : ℕ) (r : Result Draft Kind) (d : Draft) → at_line n r ≡ Ok d → r ≡ Ok d
-good_line n (Ok x) d e = cc e
-good_line n (Err k) d e = absurd (cc e)
+good_line : (n : ℕ) (l : List ℕ) (r : Result Draft Kind) (d : Draft) → at_line n l r ≡ Ok d → r ≡ Ok d
+good_line n l (Ok x) d e = cc e
+good_line n l (Err k) d e = absurd (cc e)
 
 lines_keep : (n : ℕ) (d : Draft) (ls : List (List ℕ)) → Keeps d → IfOk (draft_from n d ls) Keeps
 lines_keep n d [] k = k
 lines_keep n d (l ∷ ls) k =
     then_ok _ _ Keeps (λ t e. lines_keep (next_line n) t ls
-    (IfOk-at_ok Keeps (good_line n _ t e) (line_keeps d (words_of (without_return l)) k)))
+    (IfOk-at_ok Keeps (good_line n _ _ t e) (line_keeps d (words_of (without_return l)) k)))
 
 -- what all lines leave fits
 pub read_fits : (bytes rest : List ℕ) (n : ℕ) (d : Draft) → length rest ≡ 0

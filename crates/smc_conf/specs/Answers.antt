@@ -1,10 +1,11 @@
 -- How functions answer: by a value, or by what is wrong. Memory may run out.
-use Rattle.std.specs.Prelude.{◌≡◌, Result, Ok, Err}
+use Rattle.std.specs.Prelude.{◌≡◌, ℕ, Result, Ok, Err, List, take}
 use Rattle.smc_conf.specs.declared.conf.Conf.{Conf}
 use Rattle.smc_conf.specs.declared.stop.ConfError.{ConfError}
 use Rattle.smc_conf.specs.declared.stop.ConfError.TheVariants as error
 use Rattle.smc_conf.specs.declared.stop.Kind.{Kind}
 use Rattle.smc_conf.specs.declared.stop.Stop.{Stop}
+use Rattle.smc_conf.specs.declared.stop.TheConstants.{MOST_TEXT}
 use Rattle.smc_conf.specs.declared.stop.Stop.TheVariants as stop
 
 -- What a function returned, seen by view, is this.
@@ -24,8 +25,13 @@ Steps (Ok done) new value = value ≡ Ok new
 Steps (Err (stop.Bad k)) new value = value ≡ Err k
 Steps (Err stop.Memory) new value = Unit {0}
 
--- A whole configuration, or the first bad line and what is wrong with it.
+-- A whole configuration, or the first bad line, what is wrong with it, and how it begins.
 abbrev pub Gets : Result Conf ConfError → Result Conf ConfError → Type 0
 Gets (Ok conf) value = value ≡ Ok conf
-Gets (Err (error.Bad line k)) value = value ≡ Err (error.Bad line k)
+Gets (Err (error.Bad line k text)) value = value ≡ Err (error.Bad line k text)
 Gets (Err error.Memory) value = Unit {0}
+
+-- the error that tells of a line
+abbrev pub Tells : ConfError → ℕ → Kind → List ℕ → Type 0
+Tells (error.Bad n k text) line kind bytes = error.Bad n k text ≡ error.Bad line kind (take MOST_TEXT bytes)
+Tells error.Memory line kind bytes = Unit {0}

@@ -1,7 +1,10 @@
 -- Worked rows of configurations.
-use Rattle.std.specs.Prelude.{ℕ, suc, zero, ◌+◌, ◌/◌, ◌%◌, true, false, List, [], ◌∷◌, ◌++◌, codes}
+use Rattle.std.specs.Prelude.{◌≡◌, ℕ, suc, zero, ◌+◌, ◌/◌, ◌%◌, true, false, Err, List, [], ◌∷◌, ◌++◌, codes}
 use Rattle.smc_conf.specs.declared.conf.Conf.{Conf}
+use Rattle.smc_conf.specs.Spelled.{spelled}
 use Rattle.smc_conf.specs.declared.conf.Prefix.{Prefix}
+use Rattle.smc_conf.specs.declared.stop.ConfError.TheVariants.{Bad}
+use Rattle.smc_conf.specs.declared.stop.Kind.{Kind}
 
 -- lines, each with its line feed
 abbrev pub text : List (List ℕ) → List ℕ
@@ -68,3 +71,7 @@ abbrev pub enabling : ℕ → List (List ℕ)
 enabling zero = []
 enabling (suc n) =
     (codes "phyint i" ++ (48 + suc n / 10) ∷ (48 + suc n % 10) ∷ codes " enable") ∷ enabling n
+
+-- A text of this line alone is refused so.
+abbrev pub Refused : List ℕ → Kind → Type 0
+Refused line k = spelled line ≡ Err (Bad 1 k line)

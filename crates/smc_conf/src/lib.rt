@@ -17,5 +17,5 @@ mod worked;
 pub use conf::{Conf, Group, Phyint, Prefix, Rule};
 pub use forms::{group_word, source_word};
 pub use reading::read;
-pub use stop::{ConfError, Kind};
+pub use stop::{ConfError, Kind, MOST_TEXT};
 pub use worked::worked_configurations;

@@ -4,6 +4,7 @@ ghost use Rattle.std.specs.Prelude.{◌≡◌};
 ghost use Rattle.smc_conf.specs.Kinds.{kind_number};
 ghost use Rattle.smc_conf.specs.declared.stop.Stop.TheVariants as stop;
 
+use mr_base::List;
 use std::alloc::{AllocError, AllocFailed};
 
 /// What is wrong with a line: the first of these that holds, word by word from the left.
@@ -68,12 +69,19 @@ impl From<Kind> for Stop {
     }
 }
 
+/// How many bytes of a bad line an error carries, from its front.
+pub const MOST_TEXT: usize = 4_096;
+
 /// Why a configuration was not read.
-#[derive(Clone, Copy, Debug, PartialEq, Eq)]
+#[derive(Debug, Drop)]
 pub enum ConfError {
-    /// The first bad line, from 1, and what is wrong with it; 4,294,967,295 stands for that number
-    /// and all above.
-    Bad { line: u32, kind: Kind },
+    /// The first bad line, from 1, what is wrong with it, and its first `MOST_TEXT` bytes, without a
+    /// carriage return at its end; 4,294,967,295 stands for that number and all above.
+    Bad {
+        line: u32,
+        kind: Kind,
+        text: List<u8>,
+    },
     /// There was no memory.
     Memory,
 }

@@ -40,26 +40,72 @@ fn an_office(rt: HostRuntime) -> Result<(), Fail> {
     Ok(())
 }
 
+/// A bad line of a configuration: its number, what is wrong with it, and the line itself.
+type Row<'a> = (&'a [u8], u32, Kind, &'a [u8]);
+
+const BAD: &[Row<'_>] = &[
+    (
+        b"phyint eth0 enable ttl-threshold 0",
+        1,
+        Kind::Threshold,
+        b"phyint eth0 enable ttl-threshold 0",
+    ),
+    (
+        b"\n# x\nphyint eth0 enabled\r\n",
+        3,
+        Kind::Word,
+        b"phyint eth0 enabled",
+    ),
+    (
+        b"phyint a enable\nphyint a disable\n",
+        2,
+        Kind::Interface,
+        b"phyint a disable",
+    ),
+    (
+        b"mgroup from a group 10.0.0.1/33",
+        1,
+        Kind::Address,
+        b"mgroup from a group 10.0.0.1/33",
+    ),
+    (
+        b"mgroup from a group 239.1.1.1/33",
+        1,
+        Kind::Prefix,
+        b"mgroup from a group 239.1.1.1/33",
+    ),
+    (
+        b"mroute from a group 239.1.1.1 to",
+        1,
+        Kind::Word,
+        b"mroute from a group 239.1.1.1 to",
+    ),
+    (
+        b"mroute from a group 239.1.1.1 to pimreg",
+        1,
+        Kind::Interface,
+        b"mroute from a group 239.1.1.1 to pimreg",
+    ),
+];
+
 #[test]
-fn first_bad_lines(rt: HostRuntime) {
-    let rows: [(&[u8], u32, Kind); 7] = [
-        (b"phyint eth0 enable ttl-threshold 0", 1, Kind::Threshold),
-        (b"\n# x\nphyint eth0 enabled\n", 3, Kind::Word),
-        (b"phyint a enable\nphyint a disable\n", 2, Kind::Interface),
-        (b"mgroup from a group 10.0.0.1/33", 1, Kind::Address),
-        (b"mgroup from a group 239.1.1.1/33", 1, Kind::Prefix),
-        (b"mroute from a group 239.1.1.1 to", 1, Kind::Word),
-        (
-            b"mroute from a group 239.1.1.1 to pimreg",
-            1,
-            Kind::Interface,
-        ),
-    ];
-    for (bytes, line, kind) in rows {
-        assert_eq!(rt;
-            read(rt.alloc(), bytes).err(),
-            Some(ConfError::Bad { line, kind })
-        );
+fn first_bad_lines(rt: HostRuntime) -> Result<(), Fail> {
+    for (bytes, number, wrong, found) in BAD {
+        let Err(ConfError::Bad { line, kind, text }) = read(rt.alloc(), bytes) else {
+            return Err("a bad line".into());
+        };
+        assert_eq!(rt; (line, kind), (*number, *wrong));
+        assert_eq!(rt; text.0.as_slice(), *found);
         assert!(rt; 1 <= kind.number() && kind.number() <= 5);
     }
+    Ok(())
+}
+
+#[test]
+fn long_bad_line(rt: HostRuntime) -> Result<(), Fail> {
+    let Err(ConfError::Bad { text, .. }) = read(rt.alloc(), &[b'x'; MOST_TEXT + 1]) else {
+        return Err("a bad line".into());
+    };
+    assert_eq!(rt; text.0.len(), MOST_TEXT);
+    Ok(())
 }
