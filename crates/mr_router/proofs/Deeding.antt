@@ -12,7 +12,7 @@ use Rattle.mr_model.specs.Deeds.{Deed}
 use Rattle.mr_model.specs.Legal.{Agrees, IsLegal}
 use Rattle.mr_model.specs.Past.{is_control, controls}
 use Rattle.mr_model.proofs.Pushing.{legal_at}
-use Rattle.mr_router.specs.Authors.{daemon_author, own}
+use Rattle.mr_authors.specs.Authors.{daemon_author, own}
 use Rattle.mr_router.specs.Callers.{DaemonValue}
 use Rattle.mr_router.specs.Deeds.{deeds, deeds_in, controls_left, AllHeard}
 use Rattle.mr_router.specs.Histories.{GoesOn, Makes}

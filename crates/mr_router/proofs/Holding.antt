@@ -17,11 +17,11 @@ use Rattle.mr_model.specs.declared.outcome.Outcome.{Outcome}
 use Rattle.mr_model.specs.Legal.{IsLegal, packets_given}
 use Rattle.mr_model.specs.Past.{is_of_lane, packets_in, controls, packets, last_index, last_look}
 use Rattle.mr_model.proofs.PushingLists.{packets_push, last_look_push}
-use Rattle.mr_router.specs.Authors.{author, daemon_author, own}
+use Rattle.mr_authors.specs.Authors.{author, daemon_author, own}
 use Rattle.mr_router.specs.Deeds.{IsHeard, AllHeard}
 use Rattle.mr_router.specs.Histories.{GoesOn, Makes}
 use Rattle.mr_router.specs.Seats.{IsSeatOf, HoldsLane, HoldsDaemon, HoldsRouter, IsRouterSeat, AddsEnd, first_own}
-use Rattle.mr_router.proofs.Owning.{same_number, own_made, packets_own, last_index_own, last_look_own}
+use Rattle.mr_authors.proofs.Owning.{same_number, own_made, packets_own, last_index_own, last_look_own}
 use Rattle.mr_router.proofs.Hearing.{heard_stays, heard_push}
 
 -- the lock is got

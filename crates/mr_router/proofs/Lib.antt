@@ -1,4 +1,3 @@
-pub mod Owning
 pub mod Places
 pub mod Holding
 pub mod Hearing

@@ -11,7 +11,7 @@ use Rattle.mr_model.specs.declared.entry.Entry.{Entry}
 use Rattle.mr_model.specs.declared.entry.Entry.TheVariants.{EndPhase}
 use Rattle.mr_model.specs.declared.limits.Limits.{Limits}
 use Rattle.mr_model.specs.Legal.{IsLegal}
-use Rattle.mr_router.specs.Authors.{author, own}
+use Rattle.mr_authors.specs.Authors.{author, own}
 use Rattle.mr_router.specs.Callers.{LaneValue, DaemonValue, new_lane, new_lanes, new_daemon, new_daemons}
 use Rattle.mr_router.specs.Histories.{GoesOn, Ends}
 use Rattle.mr_router.proofs.Holding.{first_is}

@@ -11,7 +11,7 @@ use Rattle.mr_model.specs.declared.message.MessageId.{MessageId}
 use Rattle.mr_model.specs.declared.message.Told.{Told}
 use Rattle.mr_model.specs.Deeds.{Deed, Asked, Received, Ticked}
 use Rattle.mr_model.specs.Past.{controls}
-use Rattle.mr_router.specs.Authors.{own, daemon_author}
+use Rattle.mr_authors.specs.Authors.{own, daemon_author}
 use Rattle.mr_router.specs.Callers.{DaemonValue}
 
 abbrev pub no_address : Addr

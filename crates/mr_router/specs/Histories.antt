@@ -5,7 +5,7 @@ use Rattle.mr_model.specs.declared.entry.Entry.{Entry}
 use Rattle.mr_model.specs.declared.entry.Entry.TheVariants.{EndPhase}
 use Rattle.mr_model.specs.declared.limits.Limits.{Limits}
 use Rattle.mr_model.specs.Legal.{IsLegal}
-use Rattle.mr_router.specs.Authors.{own}
+use Rattle.mr_authors.specs.Authors.{own}
 use Rattle.mr_router.specs.Callers.{LaneValue, DaemonValue}
 
 -- The caller n had seen one history, and sees a later one, to which it has added nothing.

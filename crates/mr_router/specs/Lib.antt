@@ -1,4 +1,3 @@
-pub mod Authors
 pub mod Histories
 pub mod Callers
 pub mod Deeds

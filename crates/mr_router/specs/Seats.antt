@@ -9,7 +9,7 @@ use Rattle.mr_model.specs.declared.entry.Entry.TheVariants.{EndPhase}
 use Rattle.mr_model.specs.declared.limits.Limits.{Limits}
 use Rattle.mr_model.specs.Legal.{IsDaemon, IsLane, IsLegal, packets_given}
 use Rattle.mr_model.specs.Past.{controls, packets, last_look}
-use Rattle.mr_router.specs.Authors.{own, daemon_author}
+use Rattle.mr_authors.specs.Authors.{own, daemon_author}
 use Rattle.mr_router.specs.Callers.{LaneValue, DaemonValue}
 use Rattle.mr_router.specs.Deeds.{AllHeard}
 

@@ -5,7 +5,7 @@ ghost use Rattle.mr_book.specs.Views.{with_seen};
 ghost use Rattle.mr_kernel.specs.Flows.{IsKnown, IsHeadOf, id_of};
 ghost use Rattle.mr_model.specs.declared.entry.Entry.TheVariants.{Call, Tick, Recv};
 ghost use Rattle.mr_model.specs.Past.{controls};
-ghost use Rattle.mr_router.specs.Authors.{own, daemon_author};
+ghost use Rattle.mr_authors.specs.Authors.{own, daemon_author};
 ghost use Rattle.mr_router.specs.Deeds.{AllHeard};
 ghost use Rattle.mr_router.specs.Histories.{GoesOn, Makes};
 ghost use Rattle.mr_router.specs.Seats.{IsSeatOf};

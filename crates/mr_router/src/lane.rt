@@ -6,7 +6,7 @@ ghost use Rattle.mr_kernel.specs.Flows.{flow_of, back_by};
 ghost use Rattle.mr_model.specs.declared.entry.Entry.TheVariants.{Slow};
 ghost use Rattle.mr_model.specs.Legal.{packets_given};
 ghost use Rattle.mr_model.specs.Past.{packets, last_index};
-ghost use Rattle.mr_router.specs.Authors.{own};
+ghost use Rattle.mr_authors.specs.Authors.{own};
 ghost use Rattle.mr_router.specs.Histories.{Makes};
 ghost use Rattle.mr_router.specs.Seats.{IsSeatOf};
 

@@ -9,7 +9,6 @@
 mod bound;
 mod daemon;
 mod lane;
-mod laws;
 mod loops;
 mod machine;
 mod names;
@@ -21,7 +20,6 @@ mod signed;
 pub use bound::Bound;
 pub use daemon::Daemon;
 pub use lane::{Handled, Lane};
-pub use laws::{own_ends, own_gathers, own_grows, own_of_nobody, own_tells};
 pub use names::RunName;
 pub use opened::Opened;
 pub use router::{Router, Team};

@@ -7,7 +7,7 @@ ghost use Rattle.mr_book.specs.Views.{with_seen};
 ghost use Rattle.mr_history.specs.Fits.{FitsLimits};
 ghost use Rattle.mr_history.specs.declared.most.TheConstants.{MOST_LANES, MOST_DAEMONS};
 ghost use Rattle.mr_model.specs.Past.{controls};
-ghost use Rattle.mr_router.specs.Authors.{own, daemon_author};
+ghost use Rattle.mr_authors.specs.Authors.{own, daemon_author};
 ghost use Rattle.mr_router.specs.Callers.{new_lanes, new_daemons, lane_sees, daemon_sees};
 ghost use Rattle.mr_router.specs.Seats.{HoldsRouter, KnowsAll, KnowsLane, KnowsDaemon};
 

@@ -4,7 +4,7 @@ ghost use Rattle.mr_history.specs.Fits.{FitsLimits};
 ghost use Rattle.mr_model.specs.declared.entry.Entry.TheVariants.{EndPhase};
 ghost use Rattle.mr_model.specs.Legal.{IsLegal};
 ghost use Rattle.mr_model.specs.Past.{controls, phases};
-ghost use Rattle.mr_router.specs.Authors.{own, daemon_author};
+ghost use Rattle.mr_authors.specs.Authors.{own, daemon_author};
 ghost use Rattle.mr_router.specs.Callers.{new_lanes, new_daemons, lane_sees, daemon_sees};
 ghost use Rattle.mr_router.specs.Histories.{GoesOn, Ends};
 ghost use Rattle.mr_router.specs.Seats.{AddsEnd, HoldsRouter, IsRouterSeat, first_own};

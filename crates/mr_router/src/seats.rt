@@ -5,7 +5,7 @@ ghost use mathlib.Core.List.{IsPrefix};
 ghost use Rattle.mr_book.specs.Rule.{OwnEntries};
 ghost use Rattle.mr_book.specs.Views.{copied, with_seen};
 ghost use Rattle.mr_model.specs.Legal.{IsLegal};
-ghost use Rattle.mr_router.specs.Authors.{author};
+ghost use Rattle.mr_authors.specs.Authors.{author};
 
 use crate::machine::Machine;
 use crate::names::RunName;

@@ -18,7 +18,7 @@ impl Model for Signed {
 }
 
 impl Authored for Signed {
-    ghost use Rattle.mr_router.specs.Authors.{author};
+    ghost use Rattle.mr_authors.specs.Authors.{author};
 
     ghost author = { author };
 }

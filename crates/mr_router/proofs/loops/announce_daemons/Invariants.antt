@@ -1,5 +1,5 @@
 use Rattle.std.proofs.Common.{◌≡◌, All, take}
-use Rattle.mr_router.specs.Authors.{own, daemon_author}
+use Rattle.mr_authors.specs.Authors.{own, daemon_author}
 use Rattle.mr_router.specs.Callers.{daemon_sees}
 use Rattle.mr_router.proofs.Walking.{changed_to}
 use Rattle.mr_router.proofs.loops.announce_daemons.Given as goal

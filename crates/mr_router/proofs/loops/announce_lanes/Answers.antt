@@ -3,7 +3,7 @@ use Rattle.std.proofs.lemmas.List.Elements.{All-more, All-get_or}
 use mathlib.Core.List.{IsPrefix}
 use Rattle.mr_book.specs.declared.view.Known.{Known}
 use Rattle.mr_model.specs.declared.entry.Entry.{Entry}
-use Rattle.mr_router.specs.Authors.{own, daemon_author}
+use Rattle.mr_authors.specs.Authors.{own, daemon_author}
 use Rattle.mr_router.specs.Callers.{LaneValue, lane_sees}
 use Rattle.mr_router.proofs.Walking.{changed_was, changed_step, changed_whole, all_whole}
 use Rattle.mr_router.proofs.loops.announce_lanes.Goals as goal

@@ -4,7 +4,7 @@ use mathlib.Core.List.{IsPrefix}
 use Rattle.mr_book.specs.declared.view.Known.{Known}
 use Rattle.mr_book.specs.Views.{met}
 use Rattle.mr_model.specs.declared.entry.Entry.{Entry}
-use Rattle.mr_router.specs.Authors.{daemon_author}
+use Rattle.mr_authors.specs.Authors.{daemon_author}
 use Rattle.mr_router.specs.Callers.{DaemonValue}
 use Rattle.mr_router.specs.Seats.{KnowsAll, KnowsDaemon}
 use Rattle.mr_router.proofs.Walking.{knows_self, knows_all_more, knows_more, knows_new, popped, drained}

@@ -5,9 +5,9 @@ use Rattle.mr_model.specs.declared.entry.Entry.{Entry}
 use Rattle.mr_model.specs.declared.entry.Entry.TheVariants.{EndPhase}
 use Rattle.mr_model.specs.Legal.{IsLegal}
 use Rattle.mr_model.specs.Past.{phases}
-use Rattle.mr_router.specs.Authors.{author}
+use Rattle.mr_authors.specs.Authors.{author}
 use Rattle.mr_router.specs.Seats.{HoldsRouter, first_own}
-use Rattle.mr_router.proofs.Owning.{phases_own}
+use Rattle.mr_authors.proofs.Owning.{phases_own}
 use Rattle.mr_router.proofs.Holding.{router_own, router_makes, adds_end}
 use Rattle.mr_router.proofs.router.add_end.Goals as goal
 

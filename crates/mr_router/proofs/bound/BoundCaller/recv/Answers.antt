@@ -7,7 +7,7 @@ use Rattle.mr_router.specs.Deeds.{deeds, told_by}
 use Rattle.mr_router.specs.Histories.{Makes}
 use Rattle.mr_model.specs.declared.entry.Entry.{Entry}
 use Rattle.mr_model.specs.declared.entry.Entry.TheVariants.{Call, Recv, Tick}
-use Rattle.mr_router.specs.Authors.{daemon_author}
+use Rattle.mr_authors.specs.Authors.{daemon_author}
 use Rattle.mr_router.proofs.Deeding.{daemon_deeds, daemon_idle, some_left}
 use Rattle.mr_router.proofs.bound.BoundCaller.recv.Goals as goal
 

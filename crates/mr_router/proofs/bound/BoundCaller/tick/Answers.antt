@@ -2,7 +2,7 @@ use Rattle.std.proofs.Common.{◌≡◌, ◌∙◌, Some, None, map, option_map,
 use Rattle.mr_kernel.specs.Flows.{id_of, slow_flow}
 use Rattle.mr_model.specs.declared.entry.Entry.{Entry}
 use Rattle.mr_model.specs.declared.entry.Entry.TheVariants.{Call, Recv, Tick}
-use Rattle.mr_router.specs.Authors.{daemon_author}
+use Rattle.mr_authors.specs.Authors.{daemon_author}
 use Rattle.mr_router.proofs.Deeding.{daemon_deeds, daemon_idle, some_left}
 use Rattle.mr_router.proofs.bound.BoundCaller.tick.Goals as goal
 

@@ -3,7 +3,7 @@ use mathlib.Core.List.{IsPrefix}
 use Rattle.mr_book.specs.declared.view.Known.{Known}
 use Rattle.mr_book.proofs.Owns.{own_one}
 use Rattle.mr_model.specs.declared.entry.Entry.{Entry}
-use Rattle.mr_router.specs.Authors.{author, own, daemon_author}
+use Rattle.mr_authors.specs.Authors.{author, own, daemon_author}
 use Rattle.mr_router.specs.Callers.{DaemonValue, daemon_sees}
 use Rattle.mr_router.specs.Seats.{HoldsDaemon}
 use Rattle.mr_router.proofs.Holding.{daemon_sees_more}

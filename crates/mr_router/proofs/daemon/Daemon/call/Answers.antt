@@ -6,7 +6,7 @@ use Rattle.mr_model.specs.declared.entry.Entry.{Entry}
 use Rattle.mr_model.specs.declared.entry.Entry.TheVariants.{Call, Recv, Tick}
 use Rattle.mr_model.specs.Legal.{IsLegal}
 use Rattle.mr_model.specs.Past.{controls}
-use Rattle.mr_router.specs.Authors.{author, daemon_author}
+use Rattle.mr_authors.specs.Authors.{author, daemon_author}
 use Rattle.mr_router.specs.Callers.{DaemonValue}
 use Rattle.mr_router.specs.Histories.{GoesOn, Makes}
 use Rattle.mr_router.proofs.Holding.{daemon_refused, daemon_went_on, daemon_made, entry_made}

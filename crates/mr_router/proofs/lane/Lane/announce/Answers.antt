@@ -3,7 +3,7 @@ use mathlib.Core.List.{IsPrefix}
 use Rattle.mr_book.specs.declared.view.Known.{Known}
 use Rattle.mr_book.proofs.Owns.{own_one}
 use Rattle.mr_model.specs.declared.entry.Entry.{Entry}
-use Rattle.mr_router.specs.Authors.{author, own, daemon_author}
+use Rattle.mr_authors.specs.Authors.{author, own, daemon_author}
 use Rattle.mr_router.specs.Callers.{LaneValue, lane_sees}
 use Rattle.mr_router.specs.Seats.{HoldsLane}
 use Rattle.mr_router.proofs.Holding.{lane_sees_more}

@@ -6,7 +6,7 @@ use Rattle.mr_model.specs.declared.entry.Entry.{Entry}
 use Rattle.mr_model.specs.declared.entry.Entry.TheVariants.{Slow}
 use Rattle.mr_model.specs.Legal.{IsLegal, packets_given}
 use Rattle.mr_model.specs.Past.{packets, last_index}
-use Rattle.mr_router.specs.Authors.{author}
+use Rattle.mr_authors.specs.Authors.{author}
 use Rattle.mr_router.specs.Callers.{LaneValue}
 use Rattle.mr_router.specs.Histories.{GoesOn, Makes}
 use Rattle.mr_router.specs.Seats.{HoldsLane}

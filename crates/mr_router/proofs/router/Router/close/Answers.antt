@@ -2,7 +2,7 @@ use Rattle.std.proofs.Common.{◌≡◌, ◌∙◌, ℕ, List, All, sym, ap, sub
 use Rattle.std.proofs.lemmas.List.Elements.{All-weaker}
 use Rattle.mr_model.specs.declared.entry.Entry.{Entry}
 use Rattle.mr_model.specs.Legal.{IsLegal}
-use Rattle.mr_router.specs.Authors.{daemon_author}
+use Rattle.mr_authors.specs.Authors.{daemon_author}
 use Rattle.mr_router.specs.Callers.{LaneValue, DaemonValue}
 use Rattle.mr_router.specs.Histories.{GoesOn}
 use Rattle.mr_router.specs.Seats.{KnowsCaller, KnowsLane, KnowsDaemon}

@@ -3,7 +3,7 @@ use mathlib.Core.List.{IsPrefix}
 use Rattle.mr_book.specs.declared.view.Known.{Known}
 use Rattle.mr_model.specs.declared.entry.Entry.{Entry}
 use Rattle.mr_model.specs.Past.{phases}
-use Rattle.mr_router.specs.Authors.{own}
+use Rattle.mr_authors.specs.Authors.{own}
 use Rattle.mr_router.specs.Callers.{LaneValue, DaemonValue}
 use Rattle.mr_router.specs.Seats.{IsRouterSeat, first_own}
 use Rattle.mr_router.specs.Histories.{Ends}

@@ -1,5 +1,5 @@
-use Rattle.mr_router.proofs.Owning.{packets_own, last_index_own, last_look_own, phases_own}
-use Rattle.mr_router.proofs.laws.own_tells.Goals as goal
+use Rattle.mr_authors.proofs.Owning.{packets_own, last_index_own, last_look_own, phases_own}
+use Rattle.mr_authors.proofs.laws.own_tells.Goals as goal
 
 pub returns-clause-packets : goal.returns-clause-packets
 returns-clause-packets c = packets_own

@@ -1,5 +1,5 @@
-use Rattle.mr_router.proofs.Owning.{own_append, own_made}
-use Rattle.mr_router.proofs.laws.own_grows.Goals as goal
+use Rattle.mr_authors.proofs.Owning.{own_append, own_made}
+use Rattle.mr_authors.proofs.laws.own_grows.Goals as goal
 
 pub returns-clause-append : goal.returns-clause-append
 returns-clause-append c = own_append

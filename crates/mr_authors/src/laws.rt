@@ -7,7 +7,7 @@ ghost use Rattle.mr_model.specs.declared.entry.Entry.{Entry};
 ghost use Rattle.mr_model.specs.declared.limits.Limits.{Limits};
 ghost use Rattle.mr_model.specs.Legal.{IsDaemon, IsLane, IsLegal};
 ghost use Rattle.mr_model.specs.Past.{packets, last_index, last_look, phases};
-ghost use Rattle.mr_router.specs.Authors.{author, daemon_author, own};
+ghost use Rattle.mr_authors.specs.Authors.{author, daemon_author, own};
 
 /// Parts of a history are taken one behind the other, and an author's entry is one more of its own.
 pub fn own_grows()

@@ -1,5 +1,5 @@
 -- What one author's entries alone decide.
-use Rattle.std.proofs.Common.{◌≡◌, ◌≢◌, ℕ, ◌+◌, ◌==◌, ◌<◌, List, [], ◌∷◌, ◌++◌, length, Bool, true, false, cond, fold, sum_by, count_by, flat_map, refl, sym, ap, subst, ◌∙◌, arith, append_assoc, append-nil, length-append, ne_eqb, add-zero, true≢false, if◌then◌else◌}
+use Rattle.std.proofs.Common.{◌≡◌, ◌≢◌, ℕ, ◌+◌, ◌==◌, List, [], ◌∷◌, ◌++◌, length, Bool, true, false, cond, fold, sum_by, flat_map, refl, sym, ap, subst, ◌∙◌, arith, length-append, ne_eqb, add-zero, true≢false, if◌then◌else◌}
 use Rattle.std.proofs.lemmas.List.Elements.{filter-append}
 use Rattle.mr_base.specs.declared.numbers.DaemonNo.{DaemonNo}
 use Rattle.mr_base.specs.declared.numbers.LaneNo.{LaneNo}
@@ -8,7 +8,7 @@ use Rattle.mr_model.specs.declared.entry.Entry.TheVariants.{Call, Slow, Settle, 
 use Rattle.mr_model.specs.declared.limits.Limits.{Limits}
 use Rattle.mr_model.specs.Legal.{IsDaemon, IsLane, IsLegal, LegalFrom, Agrees}
 use Rattle.mr_model.specs.Past.{is_end, is_of_lane, packets_in, phases, packets, index_after, last_index, look_after, last_look}
-use Rattle.mr_router.specs.Authors.{author, daemon_author, own}
+use Rattle.mr_authors.specs.Authors.{author, daemon_author, own}
 
 pub own_append : (n : ℕ) (g h : List Entry) → own n (g ++ h) ≡ own n g ++ own n h
 own_append n g h = filter-append (λ e. author e == n) g h

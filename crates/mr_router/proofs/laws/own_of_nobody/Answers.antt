@@ -1,5 +1,0 @@
-use Rattle.mr_router.proofs.Owning.{none_of_nobody}
-use Rattle.mr_router.proofs.laws.own_of_nobody.Goals as goal
-
-pub returns : goal.returns
-returns c = none_of_nobody
