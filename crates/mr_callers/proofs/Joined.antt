@@ -3,8 +3,7 @@ use Rattle.std.proofs.Common.{◌≡◌, ◌∙◌, ℕ, ◌+◌, ◌≤◌, inl
 use Rattle.std.proofs.lemmas.Grind.{flat_map-append}
 use Rattle.std.proofs.lemmas.List.{append_cancel_left}
 use Rattle.mr_base.specs.Outside.{Files}
-use Rattle.mr_callers.specs.Authors.{own}
-use Rattle.mr_callers.specs.Deeds.{AllAsk, AllSend}
+use Rattle.mr_authors.specs.Authors.{own}
 use Rattle.mr_callers.specs.Joining.{Joins, MadeSoFar, PhasesJoin, Shares}
 use Rattle.mr_load.specs.Loading.{items_in, run_limits}
 use Rattle.mr_load.specs.Made.{MadeFrom, PartOf, Sent, asked, asked_in, sent, sent_in, to_ask, to_send}
@@ -53,27 +52,3 @@ joined files s ps p h part did fits legal made joins shares =
       lanes = λ lane least most. sym (sent_own lane part) ∙ ap (sent lane) (did_is h part did joins lane) ∙ shares.lanes lane least most;
       daemons = λ d least most. sym (asked_own d part) ∙ ap (asked d) (did_is h part did joins (16 + d)) ∙ shares.daemons d least most;
     })
-
--- the daemons of a scenario ask, and then its lanes send
-pub in_turn : (files : Files) (s : Scenario) (ps : List Phase) (p : Phase) (h m g : List Entry) → Fits s → IsLegal (run_limits files s) g → MadeSoFar files s ps h
-    → AllAsk (length s.daemons) (λ d. to_ask d p) h m → AllSend s.lanes (λ lane. to_send files lane (items_in ps) p) m g
-    → MadeSoFar files s (ps ++ p ∷ []) (g ++ EndPhase ∷ [])
-in_turn files s ps p h m g fits legal made x y =
-    let part : List Entry = x.part ++ y.part in
-    let behind : g ≡ h ++ part = both_behind h x.part y.part m g x.behind y.behind in
-    let lane_sends : (lane : ℕ) → 1 ≤ lane → lane ≤ s.lanes → sent lane (own lane part) ≡ to_send files lane (items_in ps) p = λ lane least most.
-    sent_own lane part ∙ flat_map-append (sent_in lane) x.part y.part
-    ∙ ap (λ (xs : List Sent). xs ++ sent lane y.part) (sym (sent_own lane x.part) ∙ ap (sent lane) (x.others lane (inl (omega (arith, most, fits.most_lanes)))))
-    ∙ y.each lane least most in
-    let daemon_asks : (d : ℕ) → 1 ≤ d → d ≤ length s.daemons → asked d (own (16 + d) part) ≡ to_ask d p = λ d least most.
-    asked_own d part ∙ flat_map-append (asked_in d) x.part y.part
-    ∙ ap (λ (xs : List Script). asked d x.part ++ xs) (sym (asked_own d y.part) ∙ ap (asked d) (y.others (16 + d) (inr (omega (arith, least, fits.most_lanes)))))
-    ∙ append-nil (asked d x.part) ∙ x.each d least most in
-    let all : MadeSoFar files s (ps ++ p ∷ []) (h ++ part ++ EndPhase ∷ []) =
-    joined files s ps p h part (λ n. own n part) fits (subst (λ (z : List Entry). IsLegal (run_limits files s) z) behind legal) made (λ n. own_append n h part)
-    (record {
-      no_end = own_append 0 x.part y.part ∙ rw (x.others 0 (inl (omega arith))) (y.others 0 (inl (omega arith)));
-      lanes = lane_sends;
-      daemons = daemon_asks;
-    }) in
-    subst (λ (z : List Entry). MadeSoFar files s (ps ++ p ∷ []) z) (sym (ap (λ (z : List Entry). z ++ EndPhase ∷ []) behind)) all

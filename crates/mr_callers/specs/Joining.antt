@@ -1,7 +1,7 @@
 -- What the callers did in a phase, each for itself, joins to a history that has what its scenario asks.
 use Rattle.std.specs.Prelude.{◌≡◌, ℕ, ◌+◌, ◌≤◌, List, [], ◌∷◌, ◌++◌, length}
 use Rattle.mr_base.specs.Outside.{Files}
-use Rattle.mr_callers.specs.Authors.{own}
+use Rattle.mr_authors.specs.Authors.{own}
 use Rattle.mr_load.specs.Loading.{items_in, run_limits}
 use Rattle.mr_load.specs.Made.{MadeFrom, asked, sent, to_ask, to_send}
 use Rattle.mr_model.specs.declared.entry.Entry.{Entry}

@@ -1,3 +1,2 @@
-pub mod Authors
 pub mod Deeds
 pub mod Joining

@@ -5,7 +5,7 @@ use Rattle.std.proofs.lemmas.List.{length-append, length-map}
 use Rattle.mr_base.specs.Outside.{Files}
 use Rattle.mr_base.specs.declared.numbers.DaemonNo.{DaemonNo}
 use Rattle.mr_base.specs.declared.numbers.LaneNo.{LaneNo}
-use Rattle.mr_callers.specs.Authors.{own}
+use Rattle.mr_authors.specs.Authors.{own}
 use Rattle.mr_callers.specs.Joining.{MadeSoFar}
 use Rattle.mr_callers.proofs.Doing.{own_append}
 use Rattle.mr_callers.proofs.Joined.{asked_own, joined, sent_own}
