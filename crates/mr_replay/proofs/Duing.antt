@@ -1,8 +1,7 @@
 -- Which packets a lane is to send in a phase.
-use Rattle.std.proofs.Common.{◌≡◌, ◌∙◌, ℕ, zero, suc, ◌+◌, ◌≤◌, ◌<◌, ◌==◌, Bool, true, false, is_none, cond, Some, None, List, [], ◌∷◌, ◌++◌, length, map, take, refl, sym, ap, arith, append-nil, append_assoc, subst}
-use Rattle.std.proofs.lemmas.List.{map-append}
+use Rattle.std.proofs.Common.{◌≡◌, ◌∙◌, ℕ, zero, suc, ◌+◌, ◌≤◌, ◌<◌, ◌==◌, Bool, true, false, is_none, Some, None, List, [], ◌∷◌, ◌++◌, map, take, refl, sym, ap, arith, append-nil, append_assoc, subst}
 use Rattle.std.proofs.lemmas.List.Elements.{filter-append}
-use Rattle.std.specs.List.{AllByRecursion, filter}
+use Rattle.std.specs.List.{AllByRecursion}
 use Rattle.std.specs.Prelude.{if◌then◌else◌, slice_get}
 use Rattle.mr_base.specs.Heads.{cause_of}
 use Rattle.mr_base.specs.Outside.{Files}

@@ -1,7 +1,6 @@
-pub mod Looks
 pub mod Sent
 pub mod OneLane
-pub mod Asking
+pub mod Asked
 pub mod Turning
 pub mod Duing
 pub mod Phasing
@@ -9,8 +8,11 @@ pub mod Plain
 pub mod Limits
 pub mod Ready
 pub mod Lining
+pub mod Meeting
+pub mod Counting
 pub mod Stepping
 pub mod Replaying
 pub mod Slowing
 pub mod Egressing
 pub mod Ending
+pub mod Crossing

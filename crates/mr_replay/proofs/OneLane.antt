@@ -1,13 +1,13 @@
 -- A lane's packets of one phase, one after another.
-use Rattle.std.proofs.Common.{◌≡◌, ◌≢◌, ◌∙◌, ℕ, zero, suc, ◌+◌, ◌≤◌, ◌<◌, ◌==◌, Bool, true, false, cond, List, [], ◌∷◌, ◌++◌, drop, length, map, take, get_or, refl, sym, ap, arith, append-nil, append_assoc, subst}
+use Rattle.std.proofs.Common.{◌≡◌, ◌≢◌, ◌∙◌, ℕ, zero, suc, ◌+◌, ◌≤◌, ◌<◌, ◌==◌, true, false, List, [], ◌∷◌, ◌++◌, drop, length, map, take, get_or, refl, sym, ap, arith, append-nil, append_assoc, subst}
 use Rattle.std.proofs.Math.Seq.{take-suc}
-use Rattle.std.proofs.lemmas.List.{length-append, length-map, length-take, map-append}
-use Rattle.std.specs.List.{AllByRecursion, filter}
-use Rattle.std.specs.Prelude.{IfSome, Some, None, slice_get}
-use Rattle.mr_callers.specs.Deeds.{Does, Sends}
+use Rattle.std.proofs.lemmas.List.{map-append}
+use Rattle.std.specs.List.{AllByRecursion}
+use Rattle.std.specs.Prelude.{IfSome, slice_get}
+use Rattle.mr_callers.specs.Deeds.{Sends}
 use Rattle.mr_callers.proofs.Doing.{does_none, does_then}
 use Rattle.mr_load.specs.Dues.{Due, LaneValue, RiseFrom, sent_of}
-use Rattle.mr_load.specs.Made.{Sent, sent, sent_in}
+use Rattle.mr_load.specs.Made.{Sent, sent_in}
 use Rattle.mr_model.specs.declared.entry.Entry.{Entry}
 use Rattle.mr_replay.specs.Lanes.{HasSent, LaneReady, due_in, next_due}
 

@@ -1,33 +1,22 @@
 -- What one phase adds to a run.
-use Rattle.std.proofs.Common.{◌≡◌, ◌≢◌, ◌∙◌, ℕ, zero, suc, ◌+◌, ◌-◌, ◌≤◌, ◌<◌, ◌||◌, Bool, true, false, ◌==◌, ◌⊎◌, cond, inl, inr, Some, List, [], ◌∷◌, ◌++◌, length, map, take, get_or, refl, sym, ap, arith, append-nil, append_assoc, subst}
+use Rattle.std.proofs.Common.{◌≡◌, ◌∙◌, ℕ, zero, suc, ◌+◌, ◌-◌, ◌≤◌, ◌<◌, ◌||◌, Bool, true, false, ◌==◌, Some, List, [], ◌∷◌, ◌++◌, length, map, take, get_or, refl, sym, ap, arith, append-nil, subst}
 use Rattle.std.proofs.Math.Seq.{append_snoc}
 use Rattle.std.proofs.lemmas.List.Sums.{sum_by-cons}
 use Rattle.std.specs.List.{AllByRecursion, list_any}
-use Rattle.std.specs.Prelude.{flat_map, if◌then◌else◌, slice_get, sum_by}
+use Rattle.std.specs.Prelude.{slice_get}
 use Rattle.mr_base.specs.Outside.{Files}
-use Rattle.mr_callers.specs.Authors.{own}
-use Rattle.mr_callers.specs.Deeds.{AllAsk, AllDo, AllSend}
-use Rattle.mr_callers.specs.Joining.{MadeSoFar}
-use Rattle.mr_callers.proofs.Joined.{in_turn}
+use Rattle.mr_authors.specs.Authors.{own}
 use Rattle.mr_callers.proofs.Owning.{no_ends}
 use Rattle.mr_load.specs.Callers.{from_on, one_to}
-use Rattle.mr_load.specs.Dues.{LaneValue, dues_from, lane_of, sent_of}
-use Rattle.mr_load.specs.Loading.{items_in, run_limits}
-use Rattle.mr_load.specs.Made.{Sent, sent_in, to_ask, to_send}
+use Rattle.mr_load.specs.Dues.{LaneValue, lane_of}
 use Rattle.mr_model.specs.declared.entry.Entry.{Entry}
 use Rattle.mr_model.specs.declared.entry.Entry.TheVariants.{EndPhase}
-use Rattle.mr_model.specs.Legal.{IsLegal}
-use Rattle.mr_model.specs.Past.{controls, is_end, phases}
-use Rattle.mr_model.proofs.PushingLists.{controls_push, phases_push}
-use Rattle.mr_replay.specs.Lanes.{LaneReady, LanesReady, due_in, lane_at, no_lane}
+use Rattle.mr_model.specs.Past.{is_end, phases}
+use Rattle.mr_model.proofs.PushingLists.{phases_push}
+use Rattle.mr_replay.specs.Lanes.{lane_at, no_lane}
 use Rattle.mr_replay.specs.Running.{lines_in}
-use Rattle.mr_replay.proofs.Asking.{asks_of}
-use Rattle.mr_replay.proofs.Duing.{sent_at}
-use Rattle.mr_replay.proofs.Turning.{ready_behind, shares}
 use Rattle.mr_scenario.specs.declared.scenario.Phase.{Phase}
 use Rattle.mr_scenario.specs.declared.scenario.Scenario.{Scenario}
-use Rattle.mr_scenario.specs.declared.scenario.Script.{Script}
-use Rattle.mr_scenario.specs.Fits.{Fits}
 
 -- Entries without an end of a phase leave the count of these.
 ends_none : (h part : List Entry) → list_any is_end part ≡ false → phases (h ++ part) ≡ phases h
@@ -43,24 +32,10 @@ ends_none h (e ∷ part) none = by_test (is_end e) refl none (ends_none (h ++ e 
 pub phases_stay : (h part g : List Entry) → g ≡ h ++ part → own 0 part ≡ [] → phases g ≡ phases h
 phases_stay h part g behind none = ap phases behind ∙ ends_none h part (no_ends part none)
 
--- the daemons' lines leave the lanes as they were
-pub asked_ready : (k daemons : ℕ) (vs : List LaneValue) (places : List ℕ) (ls : ℕ → List Script) (h g : List Entry) → length vs ≤ 16
-    → ((n : ℕ) → 1 ≤ n → n ≤ length vs → (lane_at vs n).lane.0 ≡ n) → AllAsk daemons ls h g → LanesReady (λ n. k) vs places h → LanesReady (λ n. k) vs places g
-asked_ready k daemons vs places ls h g few numbers a r = λ n least most.
-    let number : (lane_at vs n).lane.0 ≡ n = numbers n least most in
-    ready_behind k (lane_at vs n) (get_or places (n - 1) 0) h a.part g a.behind (a.others (lane_at vs n).lane.0 (inl (omega (arith, number, most, few)))) (r n least most)
-
-none_own : (n : ℕ) → 1 ≤ n → own n (EndPhase ∷ []) ≡ []
+pub none_own : (n : ℕ) → 1 ≤ n → own n (EndPhase ∷ []) ≡ []
 none_own n least =
     let other : (0 == n) ≡ false = grind (arith, least) in
     rw other refl
-
--- and so does the end of a phase
-pub ended_ready : (k : ℕ) (vs : List LaneValue) (places : List ℕ) (h : List Entry)
-    → ((n : ℕ) → 1 ≤ n → n ≤ length vs → (lane_at vs n).lane.0 ≡ n) → LanesReady (λ n. k) vs places h → LanesReady (λ n. k) vs places (h ++ EndPhase ∷ [])
-ended_ready k vs places h numbers r = λ n least most.
-    let number : (lane_at vs n).lane.0 ≡ n = numbers n least most in
-    ready_behind k (lane_at vs n) (get_or places (n - 1) 0) h (EndPhase ∷ []) (h ++ EndPhase ∷ []) refl (none_own (lane_at vs n).lane.0 (omega (arith, number, least))) (r n least most)
 
 lines_suc : (ps : List Phase) (k : ℕ) (p : Phase) → slice_get ps k ≡ Some p → lines_in (take (suc k) ps) ≡ lines_in (take k ps) + length p.script
 lines_suc [] k p at = absurd (cc)
@@ -132,22 +107,3 @@ lane_is files s n least most =
     lane_from files s 1 s.lanes (n - 1) (omega (arith, least, most)) ∙ ap (lane_of files s) place
 
 -- The daemons have asked, and the lanes have sent, what a phase has for them; its end is made so.
-pub phase_made : (files : Files) (s : Scenario) (k : ℕ) (p : Phase) (vs : List LaneValue) (h m g : List Entry) → Fits s → slice_get s.phases k ≡ Some p → vs ≡ lanes_of files s
-    → IsLegal (run_limits files s) g → MadeSoFar files s (take k s.phases) h
-    → AllAsk (length s.daemons) (asks_of p.script) h m → AllSend (length vs) (shares k vs) m g
-    → MadeSoFar files s (take (k + 1) s.phases) (g ++ EndPhase ∷ [])
-phase_made files s k p vs h m g fits at lanes legal made asks sends =
-    subst (λ (qs : List Phase). MadeSoFar files s qs (g ++ EndPhase ∷ [])) (sym (take_phase s.phases k p at))
-    (in_turn files s (take k s.phases) p h m g fits legal made asks
-    (record {
-      part = sends.part;
-      behind = sends.behind;
-      others = λ n outside. sends.others n (subst (λ (x : ℕ). (n ≤ 0) ⊎ (0 + x < n)) (sym many) outside);
-      each = λ n least most.
-          sends.each n least (omega (arith, most, many))
-          ∙ ap (λ (v : LaneValue). map sent_of (due_in k v.packets)) (ap (λ (xs : List LaneValue). lane_at xs n) lanes ∙ lane_is files s n least most)
-          ∙ sent_at files n s.phases k p at;
-    }))
-  where
-    many : length vs ≡ s.lanes
-    many = ap length lanes ∙ lanes_many files s

@@ -1,11 +1,11 @@
 -- A scenario that was loaded has no line of an smcroute daemon.
-use Rattle.std.proofs.Common.{◌≡◌, ◌∙◌, ℕ, Bool, true, false, Option, Some, None, Result, Ok, Err, List, [], ◌∷◌, ◌++◌, flat_map, refl, sym, ap, subst}
+use Rattle.std.proofs.Common.{◌≡◌, ◌∙◌, ℕ, Bool, true, false, Option, Some, None, Result, Ok, List, [], ◌∷◌, ◌++◌, flat_map, refl, ap, subst}
 use Rattle.std.specs.List.{AllByRecursion}
 use Rattle.std.specs.Prelude.{if◌then◌else◌}
 use Rattle.mr_base.specs.Outside.{Files}
 use Rattle.mr_load.specs.Naming.{named_in}
 use Rattle.mr_load.specs.Refusals.{accepted, after_traces, before_traces, if_built, if_there, loaded, scenario_of, with_traces}
-use Rattle.mr_load.specs.Unbuilt.{first_unbuilt, is_built_script, least_from, least_in, least_with, lesser, or_else, smc_line, unbuilt_script}
+use Rattle.mr_load.specs.Unbuilt.{first_unbuilt, is_built_script, least_from, least_in, least_with, or_else, smc_line, unbuilt_script}
 use Rattle.mr_load.specs.declared.status.Status.{Status}
 use Rattle.mr_scenario.specs.Spelled.{spelled}
 use Rattle.mr_scenario.specs.declared.scenario.Phase.{Phase}

@@ -1,17 +1,15 @@
 -- What a history says of a lane: how many packets, the last one's index, and the looks.
-use Rattle.std.proofs.Common.{◌≡◌, ◌∙◌, ℕ, zero, suc, ◌+◌, ◌≤◌, ◌<◌, ◌==◌, Bool, true, false, cond, List, [], ◌∷◌, ◌++◌, length, map, take, fold, get_or, refl, sym, ap, arith, append-nil}
+use Rattle.std.proofs.Common.{◌≡◌, ◌∙◌, ℕ, zero, suc, ◌<◌, ◌==◌, Bool, true, false, List, [], ◌∷◌, ◌++◌, length, map, take, fold, get_or, refl, sym, ap, arith}
 use Rattle.std.proofs.lemmas.List.{length-append, length-map}
 use Rattle.std.proofs.lemmas.List.Sums.{sum_by-cons}
-use Rattle.std.specs.Prelude.{flat_map, if◌then◌else◌, sum_by}
+use Rattle.std.specs.Prelude.{if◌then◌else◌}
 use Rattle.mr_base.specs.declared.numbers.LaneNo.{LaneNo}
 use Rattle.mr_load.specs.Dues.{Due, RiseFrom, sent_of}
 use Rattle.mr_load.specs.Made.{Sent, sent_in, sent}
 use Rattle.mr_model.specs.declared.entry.Entry.{Entry}
 use Rattle.mr_model.specs.declared.entry.Entry.TheVariants.{Call, Slow, Settle, Tick, Recv, EndPhase}
 use Rattle.mr_model.specs.declared.entry.FastRecord.{FastRecord}
-use Rattle.mr_model.specs.declared.limits.Limits.{Limits}
-use Rattle.mr_model.specs.Legal.{IsLegal, LegalFrom, Agrees, RecordsAgree}
-use Rattle.mr_model.specs.Past.{index_after, is_of_lane, last_index, last_look, look_after, packets, packets_in}
+use Rattle.mr_model.specs.Past.{index_after, is_of_lane, last_index, packets, packets_in}
 
 one_length : (b : Bool) (x : Sent) → (if b then 1 else 0) ≡ length (if b then x ∷ [] else [])
 one_length true x = refl
@@ -84,33 +82,3 @@ pub rises : (n k : ℕ) (ds : List Due) (place : ℕ) (none : Due) → RiseFrom 
 rises n k [] place none r less = absurd (omega (arith, less))
 rises n k (d ∷ ds) zero none r less = r.0
 rises n k (d ∷ ds) (suc place) none r less = rises d.index d.phase ds place none r.2 (omega (arith, less))
-
-either_within : (b : Bool) (x y n : ℕ) → x ≤ n → y ≤ n → (if b then x else y) ≤ n
-either_within true x y n f g = f
-either_within false x y n f g = g
-
-records_within : (limits : Limits) (g : List Entry) (index least before : ℕ) (rs : List FastRecord) → RecordsAgree limits g index least rs → before ≤ length g → fold (λ b (r : FastRecord). r.look) before rs ≤ length g
-records_within limits g index least before [] a within = within
-records_within limits g index least before (r ∷ rs) a within = records_within limits g r.index r.look r.look rs a.4 a.1
-
-entry_look : (limits : Limits) (lane : LaneNo) (n : ℕ) (g : List Entry) (e : Entry) → Agrees limits g e → n ≤ length g → look_after lane n e ≤ length g
-entry_look limits lane n g (Call d request reply released) a within = within
-entry_look limits lane n g (Slow l index look flow o) a within = either_within (l.0 == lane.0) look n (length g) a.look_within within
-entry_look limits lane n g (Settle l records) a within = either_within (l.0 == lane.0) (fold (λ b (r : FastRecord). r.look) n records) n (length g) (records_within limits g _ _ n records a.all within) within
-entry_look limits lane n g (Tick d ms) a within = within
-entry_look limits lane n g (Recv d message) a within = within
-entry_look limits lane n g EndPhase a within = within
-
-look_from : (limits : Limits) (lane : LaneNo) (n : ℕ) (g h : List Entry) → LegalFrom limits g h → n ≤ length g → fold (look_after lane) n h ≤ length g + length h
-look_from limits lane n g [] a within = omega (arith, within)
-look_from limits lane n g (e ∷ h) a within =
-    let now : look_after lane n e ≤ length g = entry_look limits lane n g e a.0 within in
-    let longer : length (g ++ e ∷ []) ≡ length g + 1 = length-append g (e ∷ []) in
-    let rest : fold (look_after lane) (look_after lane n e) h ≤ length (g ++ e ∷ []) + length h = look_from limits lane (look_after lane n e) (g ++ e ∷ []) h a.1 (omega (arith, now, longer)) in
-    omega (arith, rest, longer)
-
--- no look of a lane stands behind the end of a legal history
-pub look_within : (limits : Limits) (lane : LaneNo) (h : List Entry) → IsLegal limits h → last_look lane h ≤ length h
-look_within limits lane h legal =
-    let all : fold (look_after lane) 0 h ≤ 0 + length h = look_from limits lane 0 [] h legal (omega arith) in
-    omega (arith, all)

@@ -1,10 +1,8 @@
 -- A lane's next packet: it may be decided, and it is then sent.
-use Rattle.std.proofs.Common.{◌≡◌, ◌∙◌, ℕ, ◌+◌, ◌≤◌, ◌<◌, ◌==◌, Bool, true, cond, List, [], ◌∷◌, ◌++◌, length, map, take, get_or, min, refl, sym, ap, arith, subst}
+use Rattle.std.proofs.Common.{◌≡◌, ◌∙◌, ℕ, ◌+◌, ◌≤◌, ◌<◌, ◌==◌, true, cond, List, [], ◌∷◌, ◌++◌, length, map, take, get_or, refl, sym, ap, arith, subst}
 use Rattle.std.proofs.lemmas.Grind.{flat_map-append}
 use Rattle.std.proofs.lemmas.List.{length-map, length-take, map-append}
-use Rattle.std.specs.List.{AllByRecursion}
-use Rattle.mr_base.specs.declared.head.Head.{Head}
-use Rattle.mr_callers.specs.Deeds.{Does, Sends}
+use Rattle.mr_callers.specs.Deeds.{Sends}
 use Rattle.mr_callers.proofs.Doing.{does_one}
 use Rattle.mr_load.specs.Dues.{Due, IsPacketOf, LaneValue, RiseFrom, flow_by, sent_of}
 use Rattle.mr_load.specs.Made.{Sent, sent, sent_in}

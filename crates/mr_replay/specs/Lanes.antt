@@ -1,11 +1,14 @@
 -- How far a lane has come with its packets.
-use Rattle.std.specs.Prelude.{◌≡◌, ℕ, ◌+◌, ◌-◌, ◌<◌, ◌≤◌, ◌==◌, List, [], ◌∷◌, drop, get_or, length, map, take}
+use Rattle.std.specs.Prelude.{◌≡◌, ℕ, ◌+◌, ◌-◌, ◌<◌, ◌≤◌, ◌==◌, List, [], drop, get_or, length, map, take}
 use Rattle.std.specs.List.{AllByRecursion, filter}
+use Rattle.mr_callers.specs.Deeds.{Sends}
 use Rattle.mr_load.specs.Dues.{Due, LaneValue, sent_of}
-use Rattle.mr_load.specs.Made.{sent}
+use Rattle.mr_load.specs.Made.{Sent, sent}
 use Rattle.mr_model.specs.declared.entry.Entry.{Entry}
 use Rattle.mr_model.specs.declared.limits.Limits.{Limits}
 use Rattle.mr_model.specs.Legal.{IsLane, packets_given}
+use Rattle.mr_authors.specs.Authors.{own}
+use Rattle.mr_router.specs.Callers as router
 
 -- those of a lane's packets that are due in phase k
 abbrev pub due_in : ℕ → List Due → List Due
@@ -21,16 +24,30 @@ pub record LaneFits (limits : Limits) (v : LaneValue) : Type 0 where
   pub given : packets_given limits v.lane ≡ length v.packets
   pub devices : AllByRecursion (λ d. d.dev ≤ length limits.devices) v.packets
 
--- A history has those of the lane's packets that stand before a place.
+-- the entries that a lane made itself
+abbrev pub own_of : router.LaneValue → List Entry
+own_of l = own l.lane.0 l.seen
+
+-- Entries have those of the lane's packets that stand before a place.
 pub record HasSent (v : LaneValue) (place : ℕ) (h : List Entry) : Type 0 where
   pub within : place ≤ length v.packets
   pub sent_is : sent v.lane.0 h ≡ map sent_of (take place v.packets)
 
--- A history has just those of the lane's packets that are due before phase k, up to a place.
+-- Entries have just those of the lane's packets that are due before phase k, up to a place.
 pub record LaneReady (k : ℕ) (v : LaneValue) (place : ℕ) (h : List Entry) : Type 0 where
   pub has : HasSent v place h
   pub past : AllByRecursion (λ d. d.phase < k) (take place v.packets)
   pub left : AllByRecursion (λ d. k ≤ d.phase) (drop place v.packets)
+
+-- Entries have just those of the lane's packets that are due before phase k.
+pub record IsReady (k : ℕ) (v : LaneValue) (h : List Entry) : Type 0 where
+  pub place : ℕ
+  pub ready : LaneReady k v place h
+
+-- The lane sends these packets: they are in the entries of its own, behind those that it had.
+pub record Hands (what : List Sent) (old new : router.LaneValue) : Type 0 where
+  pub lane : new.lane ≡ old.lane
+  pub sends : Sends old.lane.0 what (own_of old) (own_of new)
 
 abbrev pub no_lane : LaneValue
 no_lane = record { lane = record { 0 = 0 }; packets = [] }
@@ -44,6 +61,32 @@ pub record LanesFit (limits : Limits) (vs : List LaneValue) : Type 0 where
   pub numbers : (n : ℕ) → 1 ≤ n → n ≤ length vs → (lane_at vs n).lane.0 ≡ n
   pub each : (n : ℕ) → 1 ≤ n → n ≤ length vs → LaneFits limits (lane_at vs n)
 
--- A history has just those packets of each lane n that are due before phase `phase n`, up to the lane's place.
-abbrev pub LanesReady : (ℕ → ℕ) → List LaneValue → List ℕ → List Entry → Type 0
-LanesReady phase vs places h = (n : ℕ) → 1 ≤ n → n ≤ length vs → LaneReady (phase n) (lane_at vs n) (get_or places (n - 1) 0) h
+-- A history has just those packets of each lane that are due before phase k.
+abbrev pub LanesReady : ℕ → List LaneValue → List Entry → Type 0
+LanesReady k vs h = (n : ℕ) → 1 ≤ n → n ≤ length vs → IsReady k (lane_at vs n) (own n h)
+
+-- lane n has seen this history
+abbrev pub at_lane : ℕ → List Entry → router.LaneValue
+at_lane n h = record { lane = record { 0 = n }; seen = h }
+
+-- These are the lanes 1 to n, which have seen a history.
+pub record AreLanes (n : ℕ) (h : List Entry) (ls : List router.LaneValue) : Type 0 where
+  pub many : length ls ≡ n
+  pub each : (i : ℕ) (l : router.LaneValue) → i < n → get_or ls i l ≡ at_lane (i + 1) h
+
+-- It is the turn of the lane at a place, counted from 0, in phase k.
+pub record HasTurn (limits : Limits) (k : ℕ) (vs : List LaneValue) (i : ℕ) (l : router.LaneValue) : Type 0 where
+  pub within : i < length vs
+  pub lane : l.lane ≡ (lane_at vs (i + 1)).lane
+  pub fits : LaneFits limits (lane_at vs (i + 1))
+  pub ready : IsReady k (lane_at vs (i + 1)) (own_of l)
+
+-- A lane has sent what was due in phase k.
+pub record HadTurn (k : ℕ) (v : LaneValue) (old new : router.LaneValue) : Type 0 where
+  pub sends : Hands (map sent_of (due_in k v.packets)) old new
+  pub ready : IsReady (k + 1) v (own_of new)
+
+-- So has each lane.
+pub record AllSend (k : ℕ) (vs : List LaneValue) (old new : List router.LaneValue) : Type 0 where
+  pub many : length new ≡ length old
+  pub each : (i : ℕ) (l : router.LaneValue) → i < length old → HadTurn k (lane_at vs (i + 1)) (get_or old i l) (get_or new i l)

@@ -1,5 +1,6 @@
 pub mod Outcomes
 pub mod Egress
 pub mod Endings
-pub mod Running
 pub mod Lanes
+pub mod Daemons
+pub mod Running

@@ -1,7 +1,8 @@
-//! The top call: a scenario is read, run over the one-thread machine, and written as its history and
-//! its egress files.
+//! The top call: a scenario is read, run by its lanes and daemons on threads, and written as its
+//! history and its egress files.
 #![tactic(auto)]
 
+mod asking;
 mod calling;
 mod egress;
 mod outputs;

@@ -1,161 +1,243 @@
-//! The phases of a scenario on one thread: in each its daemons by number, then its lanes by number.
+//! The phases of a scenario: in each, its lanes and daemons, each on a thread of its own.
 
-ghost use Rattle.std.specs.Prelude.{◌≡◌, ◌≤◌, ◌+◌, [], IfOk, flat_map, length, map};
+ghost use Rattle.std.specs.Prelude.{◌≡◌, ◌<◌, ◌≤◌, ◌+◌, [], IfOk, length};
 ghost use Rattle.std.specs.List.{AllByRecursion};
+ghost use Rattle.std.specs.Thread.{IsSync, IsSend};
 ghost use Rattle.mr_base.specs.Outside.{Files};
-ghost use Rattle.mr_callers.specs.Deeds.{AllAsk, AllSend, Asks};
-ghost use Rattle.mr_load.specs.Dues.{sent_of};
 ghost use Rattle.mr_load.specs.Loads.{IsLoaded};
-ghost use Rattle.mr_load.specs.Made.{Made, of_daemon};
-ghost use Rattle.mr_model.specs.Past.{controls};
-ghost use Rattle.mr_replay.specs.Lanes.{LanesFit, LanesReady, due_in, lane_at};
-ghost use Rattle.mr_replay.specs.Running.{CanRun, HasRun, IsLineOf, IsPhaseAt};
+ghost use Rattle.mr_load.specs.Made.{Made};
+ghost use Rattle.mr_replay.specs.Daemons.{AllAsk, AreDaemons, AsksAll, IsPlainLine, lines_by};
+ghost use Rattle.mr_replay.specs.Lanes.{AllSend, AreLanes, HadTurn, HasTurn, LanesFit, LanesReady, lane_at};
+ghost use Rattle.mr_replay.specs.Running.{CanRun, HasRun};
 
-use crate::calling::ask;
+use crate::asking::ask_lines;
 use crate::sending::send_due;
-use mr_base::Memory;
+use mr_base::{Gate, Memory};
+use mr_book::BookName;
 use mr_kernel::Kernel;
 use mr_load::{LanePackets, Loaded, lanes_of, lines_of, phases_of};
-use mr_scenario::{Phase, Scenario, ScriptLine};
+use mr_router::{Daemon, Lane, Opened, Router, RunName, Team};
+use mr_scenario::ScriptLine;
 use std::alloc::Global;
+use std::marker::Brand;
+use std::sync::Wait;
+use std::thread;
+use std::thread::Threads;
 
-/// The most lanes that a scenario may have.
-const MOST_LANES: usize = 16;
-
-/// A line is asked if it is this daemon's.
-fn ask_own(kernel: &mut Kernel, daemon: u32, line: &ScriptLine)
-    requires line { IsLineOf kernel.old.limits line.now }
-    requires room { controls kernel.old.history + length (of_daemon daemon line.now)
-        ≤ kernel.old.limits.controls }
-    ensures limits { kernel.new.limits ≡ kernel.old.limits }
-    ensures asks { Asks daemon (of_daemon daemon line.now)
-        kernel.old.history kernel.new.history }
-    ensures controls { controls kernel.new.history
-        ≡ controls kernel.old.history + length (of_daemon daemon line.now) }
+/// All lanes, each with the packets that are due in a phase, on a thread for each.
+fn send_lanes<B: BookName + Send + Sync, C: RunName + Send + Sync, R, G>(
+    rt: &R,
+    router: &Router<B, C>,
+    gate: &G,
+    lanes: &mut [Lane<B, C>],
+    packets: &[LanePackets],
+    phase: u32,
+)
+where
+    R: Wait + Threads + Sync,
+    G: Gate + Sync,
+    requires fit { LanesFit C.limits packets.now }
+    requires lanes { AreLanes (length packets.now) router.now lanes.old }
+    requires ready { LanesReady phase packets.now router.now }
+    ensures { AllSend phase packets.now lanes.old lanes.new }
 {
-    if line.daemon.0 == daemon {
-        ask(kernel, line);
-    }
+    let each = |index: usize, lane: &mut Lane<B, C>|
+        requires { HasTurn C.limits phase packets.now index lane.old }
+        ensures { HadTurn phase (lane_at packets.entry.now (index + 1)) lane.old lane.new }
+    { send_due(rt, router, gate, lane, &packets[index], phase) };
+    thread::for_each_mut(rt, lanes, packets.len().max(1), &each);
 }
 
-/// The lines of one daemon, one after another.
-fn ask_lines(kernel: &mut Kernel, daemon: u32, script: &[ScriptLine])
-    requires lines { AllByRecursion (IsLineOf kernel.old.limits) script.now }
-    requires room { controls kernel.old.history + length (flat_map (of_daemon daemon) script.now)
-        ≤ kernel.old.limits.controls }
-    ensures limits { kernel.new.limits ≡ kernel.old.limits }
-    ensures asks { Asks daemon (flat_map (of_daemon daemon) script.now)
-        kernel.old.history kernel.new.history }
-    ensures controls { controls kernel.new.history ≡ controls kernel.old.history
-        + length (flat_map (of_daemon daemon) script.now) }
+/// All daemons, each with its lines of a phase, on a thread for each.
+fn ask_daemons<B: BookName + Send + Sync, C: RunName + Send + Sync, R>(
+    rt: &R,
+    alloc: Global,
+    router: &Router<B, C>,
+    daemons: &mut [Daemon<B, C>],
+    script: &[ScriptLine],
+)
+where
+    R: Wait + Threads + Sync,
+    requires daemons { AreDaemons (length daemons.old) router.now daemons.old }
+    requires few { length daemons.old ≤ 8 }
+    requires lines { AllByRecursion IsPlainLine script.now }
+    ensures { AllAsk C.limits script.now daemons.old daemons.new }
 {
-    for line in script {
-        ask_own(kernel, daemon, line);
-    }
+    let each = |index: usize, daemon: &mut Daemon<B, C>|
+        requires { (index < 8) × (daemon.old.daemon.0 ≡ index + 1)
+            × AllByRecursion IsPlainLine script.now }
+        ensures { AsksAll C.limits (lines_by (index + 1) script.entry.now)
+            daemon.old daemon.new }
+    { ask_lines(rt, alloc, router, daemon, index as u32 + 1, script) };
+    let threads = daemons.len().max(1);
+    thread::for_each_mut(rt, daemons, threads, &each);
 }
 
-/// All daemons, one after another, each with its lines.
-fn ask_daemons(kernel: &mut Kernel, daemons: u32, script: &[ScriptLine])
-    requires lines { AllByRecursion (IsLineOf kernel.old.limits) script.now }
-    requires most { daemons ≤ 8 }
-    requires room { controls kernel.old.history + length script.now
-        ≤ kernel.old.limits.controls }
-    ensures limits { kernel.new.limits ≡ kernel.old.limits }
-    ensures ask { AllAsk daemons (λ d. flat_map (of_daemon d) script.now)
-        kernel.old.history kernel.new.history }
-    ensures controls { controls kernel.new.history
-        ≤ controls kernel.old.history + length script.now }
+/// All lanes and daemons beside each other.
+fn run_callers<'a, B: BookName + Send + Sync, C: RunName + Send + Sync, R, G>(
+    rt: &'a R,
+    alloc: Global,
+    router: &'a Router<B, C>,
+    gate: &'a G,
+    lanes: &'a mut [Lane<B, C>],
+    packets: &'a [LanePackets],
+    daemons: &'a mut [Daemon<B, C>],
+    script: &'a [ScriptLine],
+    phase: u32,
+)
+where
+    R: Wait + Threads + Sync,
+    G: Gate + Sync,
+    requires fit { LanesFit C.limits packets.now }
+    requires lanes { AreLanes (length packets.now) router.now lanes.old }
+    requires ready { LanesReady phase packets.now router.now }
+    requires daemons { AreDaemons (length daemons.old) router.now daemons.old }
+    requires few { length daemons.old ≤ 8 }
+    requires lines { AllByRecursion IsPlainLine script.now }
+    ensures send { AllSend phase packets.now lanes.old lanes.new }
+    ensures ask { AllAsk C.limits script.now daemons.old daemons.new }
 {
-    for i in 0..daemons {
-        ask_lines(kernel, i + 1, script);
-    }
-}
-
-/// All lanes, one after another, each with the packets that are due in a phase. `places` has for
-/// each lane the place of its next packet.
-fn send_lanes(kernel: &mut Kernel, lanes: &[LanePackets], phase: u32, places: &mut [usize])
-    requires fit { LanesFit kernel.old.limits lanes.now }
-    requires places { length lanes.now ≤ length places.old }
-    requires ready { LanesReady (λ n. phase) lanes.now places.old kernel.old.history }
-    ensures limits { kernel.new.limits ≡ kernel.old.limits }
-    ensures send { AllSend (length lanes.now)
-        (λ n. map sent_of (due_in phase (lane_at lanes.now n).packets))
-        kernel.old.history kernel.new.history }
-    ensures places { length places.new ≡ length places.old }
-    ensures ready { LanesReady (λ n. phase + 1) lanes.now places.new kernel.new.history }
-    ensures controls { controls kernel.new.history ≡ controls kernel.old.history }
-{
-    for i in 0..lanes.len() {
-        places[i] = send_due(kernel, &lanes[i], phase, places[i]);
-    }
-}
-
-/// How many daemons a scenario has.
-fn daemon_count(scenario: &Scenario) -> u32
-    requires { length scenario.now.daemons ≤ 8 }
-    ensures { result ≡ length scenario.now.daemons }
-{
-    scenario.daemons.0.as_slice().len() as u32
+    let mut send = ||
+        requires { IsSync R.row × IsSync G.row × IsSend B.row × IsSync B.row × IsSend C.row
+            × IsSync C.row × LanesFit C.limits packets.now
+            × AreLanes (length packets.now) router.now lanes.now
+            × LanesReady phase packets.now router.now }
+        ensures { AllSend phase packets.entry.now lanes.entry.now lanes.exit.now }
+    { send_lanes(rt, router, gate, lanes, packets, phase) };
+    let mut ask = ||
+        requires { IsSync R.row × IsSend B.row × IsSync B.row × IsSend C.row × IsSync C.row
+            × AreDaemons (length daemons.now) router.now daemons.now
+            × (length daemons.now ≤ 8) × AllByRecursion IsPlainLine script.now }
+        ensures { AllAsk C.limits script.entry.now daemons.entry.now daemons.exit.now }
+    { ask_daemons(rt, alloc, router, daemons, script) };
+    thread::join_mut(rt, &mut send, &mut ask);
 }
 
 /// One phase, and its end.
-fn run_phase(
-    kernel: &mut Kernel,
+fn run_phase<B: BookName + Send + Sync, C: RunName + Send + Sync, R, G>(
+    rt: &R,
+    alloc: Global,
+    router: &mut Router<B, C>,
+    gate: &G,
+    lanes: &mut [Lane<B, C>],
+    daemons: &mut [Daemon<B, C>],
     loaded: &Loaded,
-    daemons: u32,
-    place: u32,
-    phase: &Phase,
-    places: &mut [usize],
+    place: usize,
 )
+where
+    R: Wait + Threads + Sync,
+    G: Gate + Sync,
     requires can { CanRun loaded.now }
-    requires daemons { daemons ≡ length loaded.now.scenario.daemons }
-    requires at { IsPhaseAt loaded.now.scenario place phase.now }
-    requires run { HasRun loaded.now place places.old kernel.old }
-    ensures run { HasRun loaded.now (place + 1) places.new kernel.new }
+    requires limits { loaded.now.limits ≡ C.limits }
+    requires place { place < length loaded.now.scenario.phases }
+    requires run { HasRun loaded.now place router.old lanes.old daemons.old }
+    ensures run { HasRun loaded.now (place + 1) router.new lanes.new daemons.new }
 {
-    kernel.facts();
-    ask_daemons(kernel, daemons, lines_of(phase));
-    send_lanes(kernel, lanes_of(loaded), place, places);
-    kernel.facts();
-    kernel.end_phase();
+    let script = lines_of(&phases_of(&loaded.scenario)[place]);
+    let packets = lanes_of(loaded);
+    let phase = place as u32;
+    run_callers(
+        rt, alloc, router, gate, lanes, packets, daemons, script, phase,
+    );
+    router.end_phase(rt, lanes, daemons);
 }
 
 /// All phases.
-fn run_phases(kernel: &mut Kernel, loaded: &Loaded)
+fn run_phases<B: BookName + Send + Sync, C: RunName + Send + Sync, R, G>(
+    rt: &R,
+    alloc: Global,
+    router: &mut Router<B, C>,
+    gate: &G,
+    lanes: &mut [Lane<B, C>],
+    daemons: &mut [Daemon<B, C>],
+    loaded: &Loaded,
+)
+where
+    R: Wait + Threads + Sync,
+    G: Gate + Sync,
     requires can { CanRun loaded.now }
-    requires limits { kernel.old.limits ≡ loaded.now.limits }
-    requires first { kernel.old.history ≡ [] }
-    ensures limits { kernel.new.limits ≡ loaded.now.limits }
-    ensures made { (files : Files) → IsLoaded files loaded.now →
-        Made files loaded.now.scenario kernel.new.history }
+    requires limits { loaded.now.limits ≡ C.limits }
+    requires run { HasRun loaded.now 0 router.old lanes.old daemons.old }
+    ensures run { HasRun loaded.now (length loaded.now.scenario.phases)
+        router.new lanes.new daemons.new }
 {
-    let phases = phases_of(&loaded.scenario);
-    let daemons = daemon_count(&loaded.scenario);
-    let mut places = [0; MOST_LANES];
-    for place in 0..phases.len() {
-        run_phase(
-            kernel,
-            loaded,
-            daemons,
-            place as u32,
-            &phases[place],
-            &mut places,
-        );
+    for place in 0..phases_of(&loaded.scenario).len() {
+        run_phase(rt, alloc, router, gate, lanes, daemons, loaded, place);
     }
 }
 
-/// The machine that has run a loaded scenario.
+/// The machine that lanes and daemons have run, which share it under a name.
+fn run_opened<B: BookName + Send + Sync, C: RunName + Send + Sync, R, G>(
+    rt: &R,
+    alloc: Global,
+    opened: Opened<C>,
+    loaded: &Loaded,
+    gate: &G,
+) -> Result<Kernel, Memory>
+where
+    R: Wait + Threads + Sync,
+    G: Gate + Sync,
+    requires named { opened ≡ B.table }
+    requires can { CanRun loaded.now }
+    requires limits { loaded.now.limits ≡ C.limits }
+    ensures limits { IfOk result (λ k. k.limits ≡ loaded.now.limits) }
+    ensures made { IfOk result (λ k. (files : Files) → IsLoaded files loaded.now →
+        Made files loaded.now.scenario k.history) }
+{
+    let Team {
+        mut router,
+        mut lanes,
+        mut daemons,
+    } = Router::<B, C>::open(opened, rt, alloc, &loaded.limits)?;
+    run_phases(
+        rt,
+        alloc,
+        &mut router,
+        gate,
+        lanes.as_mut_slice(),
+        daemons.as_mut_slice(),
+        loaded,
+    );
+    Ok(router.close(rt, lanes, daemons))
+}
+
+/// The machine of a run whose limits have a name.
+fn run_named<C: RunName + Send + Sync, R, G>(
+    rt: &R,
+    alloc: Global,
+    loaded: &Loaded,
+    gate: &G,
+) -> Result<Kernel, Memory>
+where
+    R: Wait + Threads + Sync,
+    G: Gate + Sync,
+    requires can { CanRun loaded.now }
+    requires limits { loaded.now.limits ≡ C.limits }
+    ensures limits { IfOk result (λ k. k.limits ≡ loaded.now.limits) }
+    ensures made { IfOk result (λ k. (files : Files) → IsLoaded files loaded.now →
+        Made files loaded.now.scenario k.history) }
+{
+    let opened = Opened::<C>::new(alloc, &loaded.limits)?;
+    run_opened::<Brand, C, R, G>(rt, alloc, opened, loaded, gate)
+}
+
+/// The machine that has run a loaded scenario. In each phase the lanes and daemons have a thread
+/// each, and each lane asks the gate before each packet; one for which no thread can be made is run
+/// by its caller.
 ///
 /// # Errors
 ///
 /// [`Memory`] where memory runs out.
-pub fn run_loaded(alloc: Global, loaded: &Loaded) -> Result<Kernel, Memory>
+pub fn run_loaded<R: Wait + Threads + Sync, G: Gate + Sync>(
+    rt: &R,
+    alloc: Global,
+    loaded: &Loaded,
+    gate: &G,
+) -> Result<Kernel, Memory>
     requires { CanRun loaded.now }
     ensures limits { IfOk result (λ k. k.limits ≡ loaded.now.limits) }
     ensures made { IfOk result (λ k. (files : Files) → IsLoaded files loaded.now →
         Made files loaded.now.scenario k.history) }
 {
-    let mut kernel = Kernel::with(alloc, &loaded.limits)?;
-    run_phases(&mut kernel, loaded);
-    Ok(kernel)
+    run_named::<Brand, R, G>(rt, alloc, loaded, gate)
 }

@@ -60,16 +60,18 @@ fn file_asked(words: &[String]) -> Option<&str>
 /// those behind it are not written. `Memory` may come wherever memory is taken: before the text, or
 /// between one egress file and the next.
 ///
-/// The runtime, the door, the clock and the gate are not asked yet.
+/// In each phase each lane and each daemon has a thread of its own, and a lane asks the gate before
+/// each packet; one for which no thread can be made is run by the caller. The history is one of
+/// those that they may come to beside each other. The door and the clock are not asked yet.
 pub fn run<R: Wait + Threads + Sync, S: Store, K: Sink, D: Door, C: Clock, G: Gate + Sync>(
-    _rt: &R,
+    rt: &R,
     alloc: Global,
     words: &[String],
     store: &mut S,
     out: &mut K,
     _door: &mut D,
     _clock: &mut C,
-    _gate: &G,
+    gate: &G,
 ) -> Status
     // The words are not `replay SCENARIO`, with a file word.
     ensures usage { (result ≡ status.Usage) ↔ (file_asked (map string_bytes words.now) ≡ None) }
@@ -148,7 +150,7 @@ pub fn run<R: Wait + Threads + Sync, S: Store, K: Sink, D: Door, C: Clock, G: Ga
     if !has_room(&loaded.scenario) {
         return Status::ControlFull;
     }
-    match run_loaded(alloc, &loaded) {
+    match run_loaded(rt, alloc, &loaded, gate) {
         Ok(kernel) => {
             kernel.facts();
             write_outputs(alloc, &loaded, &kernel, store, out)

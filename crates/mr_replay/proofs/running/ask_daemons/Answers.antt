@@ -1,18 +1,24 @@
-use Rattle.std.proofs.Common.{◌+◌, ◌∙◌, ap, arith}
-use Rattle.mr_model.specs.declared.limits.Limits.{Limits}
-use Rattle.mr_replay.proofs.Asking.{all_ask_next, lines_all, lines_next}
+use Rattle.std.proofs.Common.{◌+◌, ◌∙◌, ap, arith, get_or, subst}
+use denote.Exit.{no}
+use denote.Param.{param}
+use denote.Param.Send.{arg_sync, param_sync}
+use Rattle.mr_replay.proofs.Crossing.{asking_sync}
+use Rattle.mr_replay.specs.Daemons.{AsksAll, lines_by}
+use Rattle.mr_router.specs.Callers.{DaemonValue}
 use Rattle.mr_replay.proofs.running.ask_daemons.Goals as goal
 
-pub ask_lines-requires-clause-room : goal.ask_lines-requires-clause-room
-ask_lines-requires-clause-room c =
-    omega (arith, c.loop-i.invariant.controls, lines_next c.loop-i.i c.args.script.now, lines_all (c.loop-i.i + 1) c.args.script.now, c.requires.room, ap (λ (x : Limits). x.controls) c.loop-i.invariant.limits)
+pub for_each_mut-requires-sync-F : goal.for_each_mut-requires-sync-F
+for_each_mut-requires-sync-F g c = λ lives within.
+    param_sync 2 _ (arg_sync _ no _ (asking_sync _ _ _ _ _ _ _ _ _ (param 0 g.row.B) (param 1 g.row.C) (param 2 g.row.R) g.B.BookName g.C.RunName c.type_bounds.sync-R))
 
-pub loop-i-preserved : goal.loop-i-preserved
-loop-i-preserved c = record {
-  limits = c.ask_lines.ensures.limits ∙ c.loop-i.invariant.limits;
-  asks = all_ask_next c.loop-i.i c.args.script.now c.args.kernel.now.history c.loop-i.kernel.history c.ask_lines.new.kernel.history c.loop-i.invariant.asks c.ask_lines.ensures.asks;
-  controls = omega (arith, c.loop-i.invariant.controls, c.ask_lines.ensures.controls, lines_next c.loop-i.i c.args.script.now);
+pub for_each_mut-requires-clause-accepts : goal.for_each_mut-requires-clause-accepts
+for_each_mut-requires-clause-accepts g c = λ lives within i p less at. (omega (arith, less, c.requires.few), ap (λ (d : DaemonValue). d.daemon.0) (at ∙ c.requires.daemons.each i p.now less), c.requires.lines)
+
+pub returns : goal.returns
+returns g c = record {
+  many = c.for_each_mut.auto.s;
+  each = λ i d less.
+      let at = (c.for_each_mut.ensures i d less).1 in
+      subst (λ (y : DaemonValue). AsksAll g.C.RunName.limits (lines_by (i + 1) c.args.script.now) (get_or c.args.daemons.now i d) y) at.left
+      (subst (λ (x : DaemonValue). AsksAll g.C.RunName.limits (lines_by (i + 1) c.args.script.now) x at.after_call.now) at.argument_is at.call);
 }
-
-pub returns-clause-controls : goal.returns-clause-controls
-returns-clause-controls c = omega (arith, c.loop-i.invariant.controls, lines_all c.loop-i.i c.args.script.now)

@@ -1,27 +1,20 @@
-use Rattle.mr_replay.proofs.Phasing.{asked_ready}
-use Rattle.mr_replay.proofs.Stepping.{end_room, phase_room, phase_runs}
+use Rattle.mr_replay.proofs.Stepping.{end_room, phase_got, phase_runs}
 use Rattle.mr_replay.proofs.running.run_phase.Goals as goal
 
-pub ask_daemons-requires-clause-room : goal.ask_daemons-requires-clause-room
-ask_daemons-requires-clause-room c =
-    rw c.lines_of.ensures (phase_room c.args.loaded.now c.args.place c.args.phase.now c.args.places.now c.args.kernel.now c.requires.can c.requires.at c.requires.run)
-
-pub send_lanes-requires-clause-ready : goal.send_lanes-requires-clause-ready
-send_lanes-requires-clause-ready c =
-    rw c.lanes_of.ensures
-    (asked_ready c.args.place c.args.daemons c.args.loaded.now.lanes c.args.places.now _ c.args.kernel.now.history c.ask_daemons.new.kernel.history
-    c.requires.can.few_lanes c.requires.can.lanes.numbers c.ask_daemons.ensures.ask c.requires.run.ready)
-
 pub end_phase-requires : goal.end_phase-requires
-end_phase-requires c =
-    end_room c.args.loaded.now c.args.place c.args.phase.now c.args.places.now c.args.kernel.now c.ask_daemons.new.kernel c.send_lanes.new.kernel c.args.daemons c.requires.can c.requires.at c.requires.run
-    (rw c.lines_of.ensures at c.ask_daemons.ensures.ask) (rw c.lanes_of.ensures at c.send_lanes.ensures.send) c.ask_daemons.ensures.limits c.send_lanes.ensures.limits
+end_phase-requires g c =
+    let p = c.index-phases_of-place.result in
+    let at = phase_got c.args.loaded.now.scenario.phases c.args.place p c.requires.place (rw c.phases_of.ensures at c.index-phases_of-place.is) in
+    record { room = end_room c.args.loaded.now c.args.place p c.args.router.now g.C.RunName.limits c.requires.limits c.requires.can at c.requires.run.ended }
 
 pub returns : goal.returns
-returns c = record {
-  run =
-      phase_runs c.args.loaded.now c.args.place c.args.phase.now c.args.places.now c.send_lanes.new.places c.args.kernel.now c.ask_daemons.new.kernel c.send_lanes.new.kernel c.end_phase.new.self c.args.daemons
-      c.requires.can c.requires.at c.requires.daemons c.requires.run c.ask_daemons.ensures.limits (rw c.lines_of.ensures at c.ask_daemons.ensures.ask) (rw c.lines_of.ensures at c.ask_daemons.ensures.controls)
-      c.send_lanes.ensures.limits (rw c.lanes_of.ensures at c.send_lanes.ensures.send) c.send_lanes.ensures.places (rw c.lanes_of.ensures at c.send_lanes.ensures.ready) c.send_lanes.ensures.controls
-      c.facts-2.ensures.legal c.end_phase.ensures;
-}
+returns g c =
+    let p = c.index-phases_of-place.result in
+    let at = phase_got c.args.loaded.now.scenario.phases c.args.place p c.requires.place (rw c.phases_of.ensures at c.index-phases_of-place.is) in
+    record {
+      run =
+          phase_runs c.args.loaded.now c.args.place p g.C.RunName.limits c.args.router.now c.end_phase.new.self
+          c.args.lanes.now c.run_callers.new.lanes c.end_phase.new.lanes c.args.daemons.now c.run_callers.new.daemons c.end_phase.new.daemons
+          c.requires.limits c.requires.can at c.requires.run (rw c.lanes_of-packets.ensures at c.run_callers.ensures.send) (rw c.lines_of-script.ensures at c.run_callers.ensures.ask)
+          c.end_phase.ensures.ends c.end_phase.ensures.own_of_lanes c.end_phase.ensures.own_of_daemons c.end_phase.ensures.lanes c.end_phase.ensures.daemons;
+    }

@@ -1,33 +1,26 @@
-use Rattle.std.proofs.Common.{◌+◌, sym, subst, ◌∙◌, arith, map, get_or}
-use Rattle.std.proofs.lemmas.List.{length-set}
-use Rattle.mr_callers.specs.Deeds.{Sends}
-use Rattle.mr_load.specs.Dues.{LaneValue, sent_of}
-use Rattle.mr_model.specs.declared.limits.Limits.{Limits}
-use Rattle.mr_replay.specs.Lanes.{LaneFits, LaneReady, due_in}
-use Rattle.mr_replay.proofs.Turning.{lane_got, turn_ready, turns_next}
+use Rattle.std.proofs.Common.{◌+◌, get_or, subst}
+use denote.Exit.{no}
+use denote.Param.{param}
+use denote.Param.Send.{arg_sync, param_sync}
+use Rattle.mr_replay.proofs.Crossing.{sending_sync}
+use Rattle.mr_replay.specs.Lanes.{HadTurn, lane_at}
+use Rattle.mr_replay.proofs.Turning.{turn_at}
+use Rattle.mr_router.specs.Callers as router
 use Rattle.mr_replay.proofs.running.send_lanes.Goals as goal
 
-pub send_due-requires-clause-fits : goal.send_due-requires-clause-fits
-send_due-requires-clause-fits c =
-    let at = lane_got c.args.lanes.now c.loop-i.i c.index-lanes-i.result c.loop-i-test.true c.index-lanes-i.is in
-    subst (λ (x : Limits). LaneFits x c.index-lanes-i.result) (sym c.loop-i.invariant.limits)
-    (subst (λ (v : LaneValue). LaneFits c.args.kernel.now.limits v) (sym at) (c.requires.fit.each (c.loop-i.i + 1) (omega arith) (omega (arith, c.loop-i-test.true))))
+pub for_each_mut-requires-sync-F : goal.for_each_mut-requires-sync-F
+for_each_mut-requires-sync-F g c = λ lives within.
+    param_sync 2 _ (arg_sync _ no _ (sending_sync _ _ _ _ _ _ _ _ _ _ _ (param 0 g.row.B) (param 1 g.row.C) (param 2 g.row.R) (param 3 g.row.G) g.B.BookName g.C.RunName c.type_bounds.sync-R c.type_bounds.sync-G))
 
-pub send_due-requires-clause-ready : goal.send_due-requires-clause-ready
-send_due-requires-clause-ready c =
-    let at = lane_got c.args.lanes.now c.loop-i.i c.index-lanes-i.result c.loop-i-test.true c.index-lanes-i.is in
-    subst (λ (v : LaneValue). LaneReady c.args.phase v (get_or c.loop-i.places c.loop-i.i 0) c.loop-i.kernel.history) (sym at)
-    (turn_ready c.args.phase c.loop-i.i c.args.lanes.now c.loop-i.places c.args.kernel.now.history c.loop-i.kernel.history c.loop-i-test.true c.loop-i.invariant.turned)
+pub for_each_mut-requires-clause-accepts : goal.for_each_mut-requires-clause-accepts
+for_each_mut-requires-clause-accepts g c = λ lives within i p less at.
+    turn_at g.C.RunName.limits c.args.phase i c.args.packets.now c.args.router.now c.args.lanes.now p.now c.requires.fit c.requires.lanes c.requires.ready less at
 
-pub loop-i-preserved : goal.loop-i-preserved
-loop-i-preserved c =
-    let at = lane_got c.args.lanes.now c.loop-i.i c.index-lanes-i.result c.loop-i-test.true c.index-lanes-i.is in
-    record {
-      limits = c.send_due.ensures.limits ∙ c.loop-i.invariant.limits;
-      places = length-set c.loop-i.places c.loop-i.i c.send_due.result ∙ c.loop-i.invariant.places;
-      turned = turns_next c.args.phase c.loop-i.i c.args.lanes.now c.loop-i.places c.args.kernel.now.history c.loop-i.kernel.history c.send_due.new.kernel.history c.send_due.result
-          c.loop-i-test.true (omega (arith, c.requires.places, c.loop-i.invariant.places)) c.requires.fit.numbers c.loop-i.invariant.turned
-          (subst (λ (v : LaneValue). Sends v.lane.0 (map sent_of (due_in c.args.phase v.packets)) c.loop-i.kernel.history c.send_due.new.kernel.history) at c.send_due.ensures.sends)
-          (subst (λ (v : LaneValue). LaneReady (c.args.phase + 1) v c.send_due.result c.send_due.new.kernel.history) at c.send_due.ensures.ready);
-      controls = c.send_due.ensures.controls ∙ c.loop-i.invariant.controls;
-    }
+pub returns : goal.returns
+returns g c = record {
+  many = c.for_each_mut.auto.s;
+  each = λ i l less.
+      let at = (c.for_each_mut.ensures i l less).1 in
+      subst (λ (y : router.LaneValue). HadTurn c.args.phase (lane_at c.args.packets.now (i + 1)) (get_or c.args.lanes.now i l) y) at.left
+      (subst (λ (x : router.LaneValue). HadTurn c.args.phase (lane_at c.args.packets.now (i + 1)) x at.after_call.now) at.argument_is at.call);
+}

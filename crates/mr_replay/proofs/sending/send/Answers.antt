@@ -1,41 +1,31 @@
-use Rattle.std.proofs.Common.{length, ap, arith}
-use Rattle.mr_kernel.specs.Values.{KernelValue}
+use Rattle.std.proofs.Common.{◌-◌}
 use Rattle.mr_load.specs.Dues.{IsPacketOf}
-use Rattle.mr_replay.proofs.Looks.{end_within, own_before_within}
+use Rattle.mr_replay.specs.Lanes.{own_of}
 use Rattle.mr_replay.proofs.OneLane.{at_place, no_due}
-use Rattle.mr_replay.proofs.Sent.{look_within}
-use Rattle.mr_replay.proofs.Slowing.{has_next, index_next, packet_sends, room_next}
+use Rattle.mr_replay.proofs.Slowing.{index_next, room_next}
+use Rattle.mr_replay.proofs.Turning.{hands_one, lane_next, lane_room, sent_one}
 use Rattle.mr_replay.proofs.sending.send.Goals as goal
 
-pub slow-requires-clause-room : goal.slow-requires-clause-room
-slow-requires-clause-room c = rw c.lane.ensures (room_next c.args.kernel.now.limits c.args.lane.now c.args.place c.args.kernel.now.history c.requires.fits c.requires.sent c.requires.within)
+pub packet-requires-clause-room : goal.packet-requires-clause-room
+packet-requires-clause-room g c =
+    lane_room g.C.RunName.limits c.args.packets.now c.args.lane.now c.requires.lane
+    (room_next g.C.RunName.limits c.args.packets.now c.args.place (own_of c.args.lane.now) c.requires.fits c.requires.sent c.requires.within)
 
-pub slow-requires-clause-next : goal.slow-requires-clause-next
-slow-requires-clause-next c =
-    let is = at_place (IsPacketOf c.args.lane.now.lane c.packet.result) c.args.lane.now.packets c.args.place no_due c.requires.within c.packet.ensures in
-    rw c.lane.ensures (index_next c.args.lane.now c.args.place c.packet.result.index c.args.kernel.now.history c.facts-2.ensures.rise c.requires.sent c.requires.within is.index)
-
-pub slow-requires-clause-look_former : goal.slow-requires-clause-look_former
-slow-requires-clause-look_former c =
-    omega (arith, look_within c.args.kernel.now.limits c.lane.result c.args.kernel.now.history c.facts.ensures.legal, c.len-look.ensures, ap length c.journal.ensures.entries)
-
-pub slow-requires-clause-look_own : goal.slow-requires-clause-look_own
-slow-requires-clause-look_own c =
-    omega (arith, own_before_within c.lane.result c.args.kernel.now.history, c.len-look.ensures, ap length c.journal.ensures.entries)
-
-pub slow-requires-clause-look_end : goal.slow-requires-clause-look_end
-slow-requires-clause-look_end c =
-    omega (arith, end_within c.args.kernel.now.history, c.len-look.ensures, ap length c.journal.ensures.entries)
+pub packet-requires-clause-next : goal.packet-requires-clause-next
+packet-requires-clause-next g c =
+    let is = at_place (IsPacketOf c.args.packets.now.lane c.packet-packet.result) c.args.packets.now.packets c.args.place no_due c.requires.within c.packet-packet.ensures in
+    lane_next c.args.packets.now c.args.lane.now c.packet-packet.result.index c.requires.lane
+    (index_next c.args.packets.now c.args.place c.packet-packet.result.index (own_of c.args.lane.now) c.facts.ensures.rise c.requires.sent c.requires.within is.index)
 
 pub returns-clause-sends : goal.returns-clause-sends
-returns-clause-sends c =
-    let is = at_place (IsPacketOf c.args.lane.now.lane c.packet.result) c.args.lane.now.packets c.args.place no_due c.requires.within c.packet.ensures in
-    packet_sends c.args.lane.now c.args.place _ c.packet.result _ c.args.kernel.now.history c.slow.new.self.history c.requires.within is
-    (rw c.lane.ensures at (ap (λ (k : KernelValue). k.history) c.slow.ensures.entry))
+returns-clause-sends g c =
+    let is = at_place (IsPacketOf c.args.packets.now.lane c.packet-packet.result) c.args.packets.now.packets c.args.place no_due c.requires.within c.packet-packet.ensures in
+    hands_one g.C.RunName.limits c.args.packets.now c.args.place (c.packet.result.number - 1) c.packet-packet.result c.packet.result.outcome c.args.lane.now c.packet.new.self
+    c.requires.lane c.packet.ensures.lane c.requires.within is c.packet.ensures.entry
 
 pub returns-clause-sent : goal.returns-clause-sent
-returns-clause-sent c =
-    let is = at_place (IsPacketOf c.args.lane.now.lane c.packet.result) c.args.lane.now.packets c.args.place no_due c.requires.within c.packet.ensures in
-    has_next c.args.lane.now c.args.place c.args.kernel.now.history c.slow.new.self.history c.requires.sent c.requires.within
-    (packet_sends c.args.lane.now c.args.place _ c.packet.result _ c.args.kernel.now.history c.slow.new.self.history c.requires.within is
-    (rw c.lane.ensures at (ap (λ (k : KernelValue). k.history) c.slow.ensures.entry)))
+returns-clause-sent g c =
+    let is = at_place (IsPacketOf c.args.packets.now.lane c.packet-packet.result) c.args.packets.now.packets c.args.place no_due c.requires.within c.packet-packet.ensures in
+    sent_one c.args.packets.now c.args.place c.args.lane.now c.packet.new.self c.requires.lane c.requires.sent c.requires.within
+    (hands_one g.C.RunName.limits c.args.packets.now c.args.place (c.packet.result.number - 1) c.packet-packet.result c.packet.result.outcome c.args.lane.now c.packet.new.self
+    c.requires.lane c.packet.ensures.lane c.requires.within is c.packet.ensures.entry)

@@ -10,7 +10,9 @@ use Rattle.std.specs.Prelude.{string_bytes}
 use Rattle.mr_replay.proofs.top.run.Goals as goal
 
 pub run_loaded-requires : goal.run_loaded-requires
-run_loaded-requires g c = can_run c.in-Ok.ensures.loads.files c.in-Some.file.now c.in-Ok.loaded c.in-Ok.ensures.loads.loads.0 c.in-Ok.ensures.loads.loads.1 (roomy c.has_room.result _ _ c.if-not-has_room.false c.has_room.ensures)
+run_loaded-requires g c =
+    let can = can_run c.in-Ok.ensures.loads.files c.in-Some.file.now c.in-Ok.loaded c.in-Ok.ensures.loads.loads.0 c.in-Ok.ensures.loads.loads.1 (roomy c.has_room.result _ _ c.if-not-has_room.false c.has_room.ensures) in
+    (record { shared = c.type_bounds.sync-R.shared }, (record { shared = c.type_bounds.sync-G.shared }, can))
 
 pub write_outputs-requires : goal.write_outputs-requires
 write_outputs-requires g c = can_run c.in-Ok.ensures.loads.files c.in-Some.file.now c.in-Ok.loaded c.in-Ok.ensures.loads.loads.0 c.in-Ok.ensures.loads.loads.1 (roomy c.has_room.result _ _ c.if-not-has_room.false c.has_room.ensures)

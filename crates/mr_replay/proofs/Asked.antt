@@ -1,5 +1,5 @@
--- What daemons ask, one line after another.
-use Rattle.std.proofs.Common.{◌≡◌, ◌≢◌, ◌∙◌, ℕ, zero, suc, ◌+◌, ◌≤◌, ◌<◌, ◌==◌, Bool, true, false, cond, Option, List, [], ◌∷◌, ◌++◌, length, take, get_or, refl, sym, ap, arith, append-nil, subst}
+-- What a daemon asks, one line after another.
+use Rattle.std.proofs.Common.{◌≡◌, ◌∙◌, ℕ, zero, suc, ◌+◌, ◌≤◌, ◌<◌, ◌==◌, Bool, true, false, cond, inl, inr, Option, List, [], ◌∷◌, ◌++◌, length, take, take_all, get_or, refl, sym, ap, arith, append-nil, subst}
 use Rattle.std.proofs.Math.Seq.{take-suc}
 use Rattle.std.proofs.lemmas.Grind.{flat_map-append}
 use Rattle.std.proofs.lemmas.List.{length-append}
@@ -7,16 +7,21 @@ use Rattle.std.proofs.lemmas.List.Sums.{sum_by-cons}
 use Rattle.std.proofs.lemmas.Bool.Decides.{nat_tests}
 use Rattle.std.specs.Prelude.{flat_map, nat_le, sum_by}
 use Rattle.mr_base.specs.declared.numbers.DaemonNo.{DaemonNo}
-use Rattle.mr_callers.specs.Deeds.{AllAsk, Asks, Does}
-use Rattle.mr_callers.proofs.Doing.{all_next, all_none, does_none, does_one, does_then}
-use Rattle.mr_callers.proofs.Owning.{asked_none}
+use Rattle.mr_callers.specs.Deeds.{Asks}
+use Rattle.mr_callers.proofs.Doing.{does_none, does_one, does_then}
 use Rattle.mr_load.specs.Made.{asked_in, of_daemon}
 use Rattle.mr_model.specs.declared.entry.Entry.{Entry}
 use Rattle.mr_model.specs.declared.entry.Entry.TheVariants.{Call, Tick, Recv}
 use Rattle.mr_model.specs.declared.entry.ReleasedId.{ReleasedId}
+use Rattle.mr_model.specs.declared.limits.Limits.{Limits}
 use Rattle.mr_model.specs.declared.message.MessageId.{MessageId}
 use Rattle.mr_model.specs.declared.reply.Reply.{Reply}
 use Rattle.mr_model.specs.declared.request.Request.{Request}
+use Rattle.mr_model.specs.Past.{controls}
+use Rattle.mr_replay.specs.Daemons.{AsksAll, FindsFull, HasAsked, lines_by, made_by}
+use Rattle.mr_authors.specs.Authors.{daemon_author, own}
+use Rattle.mr_router.specs.Callers.{DaemonValue}
+use Rattle.mr_router.specs.Histories.{GoesOn, Makes}
 use Rattle.mr_scenario.specs.declared.scenario.Script.{Script}
 use Rattle.mr_scenario.specs.declared.scenario.Script.TheVariants as script
 use Rattle.mr_scenario.specs.declared.scenario.ScriptLine.{ScriptLine}
@@ -63,10 +68,6 @@ asks_next d i ls l h m g less at x y =
     subst (λ (xs : List Script). Asks d xs h g) (sym (lines_push d i ls l less at))
     (asks_then d (flat_map (of_daemon d) (take i ls)) (of_daemon d l) h m g x y)
 
-pub lines_count : (d i : ℕ) (ls : List ScriptLine) (l : ScriptLine) → i < length ls → l ≡ get_or ls i l
-    → length (flat_map (of_daemon d) (take (i + 1) ls)) ≡ length (flat_map (of_daemon d) (take i ls)) + length (of_daemon d l)
-lines_count d i ls l less at = ap length (lines_push d i ls l less at) ∙ length-append (flat_map (of_daemon d) (take i ls)) (of_daemon d l)
-
 -- the lines up to one, and its own, are not more than all
 pub lines_within : (d i : ℕ) (ls : List ScriptLine) (l : ScriptLine) → i < length ls → l ≡ get_or ls i l
     → length (flat_map (of_daemon d) (take i ls)) + length (of_daemon d l) ≤ length (flat_map (of_daemon d) ls)
@@ -112,12 +113,67 @@ pub lines_all : (n : ℕ) (ls : List ScriptLine) → lines_to n ls ≤ length ls
 lines_all n [] = omega arith
 lines_all n (l ∷ ls) = omega (arith, lines_all n ls, few_up_to n l, sum_by-cons (up_to n) l ls)
 
-abbrev pub asks_of : List ScriptLine → ℕ → List Script
-asks_of ls d = flat_map (of_daemon d) ls
+-- nothing is asked
+pub has_none : (d : DaemonValue) → HasAsked [] d d
+has_none d = record { daemon = refl; asks = asks_none d.daemon.0 (made_by d) }
 
-pub none_asks : (ls : List ScriptLine) (h : List Entry) → AllAsk 0 (asks_of ls) h h
-none_asks ls h = all_none 16 asked_in (asks_of ls) h
+-- first these, and then those
+pub has_then : (a b : List Script) (old now new : DaemonValue) → HasAsked a old now → HasAsked b now new → HasAsked (a ++ b) old new
+has_then a b old now new x y = record {
+  daemon = y.daemon ∙ x.daemon;
+  asks =
+      asks_then old.daemon.0 a b (made_by old) (made_by now) (made_by new) x.asks
+      (subst (λ (n : DaemonNo). Asks n.0 b (made_by now) (made_by new)) x.daemon y.asks);
+}
 
--- one daemon more
-pub all_ask_next : (i : ℕ) (ls : List ScriptLine) (h m g : List Entry) → AllAsk i (asks_of ls) h m → Asks (i + 1) (asks_of ls (i + 1)) m g → AllAsk (i + 1) (asks_of ls) h g
-all_ask_next i ls h m g x y = all_next 16 i asked_in (asks_of ls) h m g asked_none x y
+-- one line more
+pub has_next : (n i : ℕ) (ls : List ScriptLine) (l : ScriptLine) (old now new : DaemonValue) → i < length ls → l ≡ get_or ls i l
+    → HasAsked (lines_by n (take i ls)) old now → HasAsked (of_daemon n l) now new → HasAsked (lines_by n (take (i + 1) ls)) old new
+has_next n i ls l old now new less at x y =
+    subst (λ (xs : List Script). HasAsked xs old new) (sym (lines_push n i ls l less at))
+    (has_then (lines_by n (take i ls)) (of_daemon n l) old now new x y)
+
+-- a line for which there is no room
+pub ends_full : (limits : Limits) (n i : ℕ) (ls : List ScriptLine) (l : ScriptLine) (old now new : DaemonValue) → i < length ls → l ≡ get_or ls i l → length (of_daemon n l) ≡ 1
+    → HasAsked (lines_by n (take i ls)) old now → FindsFull limits now new → AsksAll limits (lines_by n ls) old new
+ends_full limits n i ls l old now new less at one x full = record {
+  done = lines_by n (take i ls);
+  asked = record {
+    daemon = full.daemon ∙ x.daemon;
+    asks = subst (λ (h : List Entry). Asks old.daemon.0 (lines_by n (take i ls)) (made_by old) h) (sym full.same) x.asks;
+  };
+  rest = inr (record { fewer = omega (arith, lines_within n i ls l less at, one); full = full.full });
+}
+
+-- all lines
+pub ends_whole : (limits : Limits) (n i : ℕ) (ls : List ScriptLine) (old now : DaemonValue) → length ls ≤ i → HasAsked (lines_by n (take i ls)) old now → AsksAll limits (lines_by n ls) old now
+ends_whole limits n i ls old now le x = record { done = lines_by n (take i ls); asked = x; rest = inl (ap (lines_by n) (take_all i ls le)) }
+
+-- the answers of the machine
+pub call_made : (limits : Limits) (r : Request) (reply : Reply) (released : List ReleasedId) (old new : DaemonValue) → new.daemon ≡ old.daemon
+    → Makes limits (daemon_author old.daemon.0) old.seen new.seen (Call old.daemon r reply released) → HasAsked (script.Ask r ∷ []) old new
+call_made limits r reply released old new same m = record {
+  daemon = same;
+  asks = call_asks old.daemon r reply released (made_by old) (made_by new) (ap (λ (n : DaemonNo). own (daemon_author n.0) new.seen) same ∙ m.own);
+}
+
+pub tick_made : (limits : Limits) (ms : ℕ) (old new : DaemonValue) → new.daemon ≡ old.daemon
+    → Makes limits (daemon_author old.daemon.0) old.seen new.seen (Tick old.daemon ms) → HasAsked (script.Tick ms ∷ []) old new
+tick_made limits ms old new same m = record {
+  daemon = same;
+  asks = tick_asks old.daemon ms (made_by old) (made_by new) (ap (λ (n : DaemonNo). own (daemon_author n.0) new.seen) same ∙ m.own);
+}
+
+pub recv_made : (limits : Limits) (message : Option MessageId) (old new : DaemonValue) → new.daemon ≡ old.daemon
+    → Makes limits (daemon_author old.daemon.0) old.seen new.seen (Recv old.daemon message) → HasAsked (script.Recv ∷ []) old new
+recv_made limits message old new same m = record {
+  daemon = same;
+  asks = recv_asks old.daemon message (made_by old) (made_by new) (ap (λ (n : DaemonNo). own (daemon_author n.0) new.seen) same ∙ m.own);
+}
+
+pub finds_full : (limits : Limits) (old new : DaemonValue) → new.daemon ≡ old.daemon → GoesOn limits (daemon_author old.daemon.0) old.seen new.seen → controls new.seen ≡ limits.controls → FindsFull limits old new
+finds_full limits old new same went full = record {
+  daemon = same;
+  same = ap (λ (n : DaemonNo). own (daemon_author n.0) new.seen) same ∙ went.own;
+  full = full;
+}

@@ -1,0 +1,12 @@
+use Rattle.mr_replay.proofs.Asked.{ends_full, has_next}
+use Rattle.mr_replay.proofs.asking.ask_lines.Goals as goal
+
+pub loop-line-preserved : goal.loop-line-preserved
+loop-line-preserved g c =
+    has_next c.args.number c.loop-line.line-index c.args.script.now c.line-item.result c.args.daemon.now c.loop-line.daemon c.ask_own.new.daemon
+    c.loop-line-test.true c.line-item.is c.loop-line.invariant c.in-Ok.ensures.asks
+
+pub returns-in_default : goal.returns-in_default
+returns-in_default g c =
+    ends_full g.C.RunName.limits c.args.number c.loop-line.line-index c.args.script.now c.line-item.result c.args.daemon.now c.loop-line.daemon c.ask_own.new.daemon
+    c.loop-line-test.true c.line-item.is c.in_default.ensures.its c.loop-line.invariant c.in_default.ensures.full
