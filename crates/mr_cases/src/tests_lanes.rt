@@ -1,4 +1,5 @@
 use crate::tests::{PACKET, SETUP, check_history, replayed, store_of, told};
+use crate::tests_threads::check_parts;
 use mr_base::LaneNo;
 use mr_lines::Skip;
 use mr_load::load;
@@ -28,31 +29,20 @@ lane 1 pkt eth0 4500001c000100000211bec50a000009ef01010103e803e900080000
 daemon 2 addmfc 10.0.0.9 239.1.1.1 0 1:2
 ";
 
-const SEVERAL_HISTORY: &str = "\
-history 1
-skip 1 2 1
-1 call 1 addvif 0 8 @1 = ok
-2 call 1 addvif 1 8 @2 = ok
-3 call 2 init = ok
-4 call 2 addmfc 10.0.0.9 239.1.1.1 0 1:1 = ok
-5 call 3 addmfc 10.0.0.8 239.1.1.1 1 0:1 = ok
-6 slow 1 1 5 fwd 4 0 1
-7 slow 3 1 6 fwd 4 0 1
-8 phase
-9 call 2 addmfc 10.0.0.9 239.1.1.1 0 1:2 = ok
-10 slow 1 3 9 fwd 4 0 -
-11 slow 3 2 10 fwd 5 1 0
-12 phase
-route 4 10.0.0.9 239.1.1.1 0 3 84 0
-route 5 10.0.0.8 239.1.1.1 1 1 28 0
-vif 0 eth0 3 1 84 28
-vif 1 eth1 1 2 28 56
-end
-";
+/// What each of its callers did, in its order, as numbers of tests_threads. Between the callers of a
+/// phase any order is legal.
+const SEVERAL_PARTS: [(u32, &[u32]); 6] = [
+    (0, &[0, 0]),
+    (1, &[1, 3]),
+    (3, &[1, 2]),
+    (17, &[0, 1]),
+    (18, &[20, 31, 32]),
+    (19, &[30]),
+];
 
 #[test]
 fn several_lanes_and_daemons(rt: HostRuntime) -> Result<(), Fail> {
-    check_history(&rt, SEVERAL, SEVERAL_HISTORY)
+    check_parts(&rt, SEVERAL, &SEVERAL_PARTS)
 }
 
 /// Heads that are refused, each for the cause of its place here, with an accepted one behind the fourth.

@@ -74,8 +74,9 @@ history 1
 2 call 1 addvif 0 8 @1 = ok
 3 call 1 addvif 1 8 @2 = ok
 4 call 1 addmfc 10.0.0.9 239.1.1.1 0 1:1 = ok
-5 slow 1 1 4 fwd 4 0 1
-6 phase
+5 phase
+6 slow 1 1 5 fwd 4 0 1
+7 phase
 route 4 10.0.0.9 239.1.1.1 0 1 28 0
 vif 0 eth0 1 0 28 0
 vif 1 eth1 0 1 0 28
@@ -98,7 +99,7 @@ const LINKS: [(u16, &[u8]); 5] = [
 #[test]
 fn each_kind_of_trace(rt: HostRuntime) -> Result<(), Fail> {
     let alloc = rt.alloc();
-    let text = format!(in alloc; "{SETUP}lane 1 trace eth0 t\n")?;
+    let text = format!(in alloc; "{SETUP}phase\nlane 1 trace eth0 t\n")?;
     for magic in [MICROS, NANOS, BIG_MICROS, BIG_NANOS] {
         for (link, front) in LINKS {
             let mut file = header(alloc, magic, link)?;
@@ -122,9 +123,10 @@ skip 1 6 1
 2 call 1 addvif 0 8 @1 = ok
 3 call 1 addvif 1 8 @2 = ok
 4 call 1 addmfc 10.0.0.9 239.1.1.1 0 1:1 = ok
-5 slow 1 2 4 fwd 4 0 1
-6 slow 1 5 5 fwd 4 0 1
-7 phase
+5 phase
+6 slow 1 2 5 fwd 4 0 1
+7 slow 1 5 6 fwd 4 0 1
+8 phase
 route 4 10.0.0.9 239.1.1.1 0 2 56 0
 vif 0 eth0 2 0 56 0
 vif 1 eth1 0 2 0 56
@@ -134,7 +136,7 @@ end
 #[test]
 fn frames_of_every_sort(rt: HostRuntime) -> Result<(), Fail> {
     let alloc = rt.alloc();
-    let text = format!(in alloc; "{SETUP}lane 1 trace eth0 t\nlane 1 trace eth0 t\n")?;
+    let text = format!(in alloc; "{SETUP}phase\nlane 1 trace eth0 t\nlane 1 trace eth0 t\n")?;
     let (_, front) = LINKS[0];
     let mut padded = Vec::from_slice(alloc, &PACKET)?;
     padded.extend_from_slice(&[0; 6])?;
