@@ -3,4 +3,5 @@ pub mod Bringing
 pub mod Counted
 pub mod Extending
 pub mod Nearness
+pub mod Packets
 pub mod Phases

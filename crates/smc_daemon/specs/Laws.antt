@@ -1,7 +1,10 @@
 -- How many control entries a daemon with a routing machine makes.
 use Rattle.std.specs.Prelude.{◌≡◌, ◌+◌, ◌*◌, ◌≤◌, ℕ, List, [], length, sum_by}
 use Rattle.mr_base.specs.Outside.{Files}
+use Rattle.mr_model.specs.Legal.{IsLegal}
+use Rattle.mr_model.specs.Past.{packets_in}
 use Rattle.mr_model.specs.declared.entry.Entry.{Entry}
+use Rattle.mr_model.specs.declared.limits.Limits.{Limits}
 use Rattle.mr_scenario.specs.declared.scenario.DaemonKind.TheVariants.{Smc}
 use Rattle.mr_scenario.specs.declared.scenario.Scenario.{Scenario}
 use Rattle.smc_core.specs.Driving.{Answer, Line, smc}
@@ -9,7 +12,7 @@ use Rattle.smc_core.specs.Machine.{Machine}
 use Rattle.smc_daemon.specs.Courses.{DrivesFrom}
 use Rattle.smc_daemon.specs.Deeds.{did}
 use Rattle.smc_daemon.specs.Machines.{machine_of}
-use Rattle.smc_daemon.specs.Reporting.{brought_in}
+use Rattle.smc_daemon.specs.Reporting.{brought_in, brought_to_all}
 use Rattle.smc_daemon.specs.Room.{least_by, asked_reports}
 use Rattle.smc_words.specs.Words.{Word}
 
@@ -39,3 +42,9 @@ abbrev pub MostOfDaemons : Type 0
 MostOfDaemons = (files : Files) (s : Scenario) (d : ℕ) (names : List Word) (h : List Entry)
     → DrivesFrom d (machine_of files s names) [] s.phases h
     → length (did d [] h) ≤ least_by files s d (Smc names) + brought_in (did d [] h)
+
+-- The reports that the receives of a legal history give bring at most five entries for each of its
+-- packets, fast and slow.
+abbrev pub BroughtByPackets : Type 0
+BroughtByPackets = (limits : Limits) (h : List Entry)
+    → IsLegal limits h → brought_to_all h ≤ 5 * sum_by packets_in h

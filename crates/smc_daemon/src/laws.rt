@@ -1,7 +1,7 @@
 //! Laws of how many control entries a daemon with a routing machine makes.
 
 ghost use Rattle.smc_daemon.specs.Laws.{LeastOfCourses, MostOfCourses, PolledInCourses};
-ghost use Rattle.smc_daemon.specs.Laws.{LeastOfDaemons, MostOfDaemons};
+ghost use Rattle.smc_daemon.specs.Laws.{LeastOfDaemons, MostOfDaemons, BroughtByPackets};
 
 /// A machine makes as much at least as where no receive gives a report, and at most as much more as
 /// its reports bring: three for each receive that its polls ask for.
@@ -15,4 +15,9 @@ pub fn courses_bound()
 pub fn daemons_bound()
     ensures least { LeastOfDaemons }
     ensures most { MostOfDaemons }
+{}
+
+/// What the kernel's reports bring to all daemons of a legal history is bounded by its packets.
+pub fn packets_bring()
+    ensures { BroughtByPackets }
 {}
