@@ -20,7 +20,7 @@ pub record Alike (xs ys : List Deed) : Type 0 where
 alike_same : (xs : List Deed) → Alike xs xs
 alike_same xs = record { many = refl; brought = refl }
 
-alike_append : (xs ys us vs : List Deed) → Alike xs us → Alike ys vs → Alike (xs ++ ys) (us ++ vs)
+pub alike_append : (xs ys us vs : List Deed) → Alike xs us → Alike ys vs → Alike (xs ++ ys) (us ++ vs)
 alike_append xs ys us vs a b = record {
   many = omega (arith, a.many, b.many, length-append xs ys, length-append us vs);
   brought = sum_by-append brought xs ys ∙ ap₂ (λ x y. x + y) a.brought b.brought ∙ sym (sum_by-append brought us vs);

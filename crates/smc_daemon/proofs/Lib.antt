@@ -1,3 +1,4 @@
+pub mod Begun
 pub mod Besides
 pub mod Bringing
 pub mod Counted

@@ -22,14 +22,14 @@ use Rattle.smc_daemon.proofs.Nearness.{bare}
 
 -- c0 is the course without reports so far, m the machine behind the other one, which made k entries, and
 -- reports brought w.
-record Behind (k w : ℕ) (c0 : Course) (m : Machine) : Type 0 where
+pub record Behind (k w : ℕ) (c0 : Course) (m : Machine) : Type 0 where
   pub same : bare c0.machine ≡ bare m
   pub unlearned : c0.machine.learned ≡ []
   pub none : c0.answers ≡ []
   pub lower : length c0.deeds ≤ k
   pub upper : k + length m.learned ≤ length c0.deeds + w
 
-phase_beside : (k w : ℕ) (c0 : Course) (m : Machine) (ls : List Line) (deeds : List Deed) → Behind k w c0 m → Beside k w (fold driven c0 ls) (course m ls deeds)
+pub phase_beside : (k w : ℕ) (c0 : Course) (m : Machine) (ls : List Line) (deeds : List Deed) → Behind k w c0 m → Beside k w (fold driven c0 ls) (course m ls deeds)
 phase_beside k w c0 m ls deeds b = lines_beside ls k w c0 _ (record {
   same = b.same;
   unlearned = b.unlearned;
@@ -38,7 +38,7 @@ phase_beside k w c0 m ls deeds b = lines_beside ls k w c0 _ (record {
   upper = omega (arith, b.upper);
 })
 
-next_phase : (k w : ℕ) (c0 : Course) (m : Machine) (ls : List Line) (deeds : List Deed) → deeds ≡ (course m ls deeds).deeds → Behind k w c0 m → Behind (k + length deeds) (w + brought_in deeds) (fold driven c0 ls) (course m ls deeds).machine
+pub next_phase : (k w : ℕ) (c0 : Course) (m : Machine) (ls : List Line) (deeds : List Deed) → deeds ≡ (course m ls deeds).deeds → Behind k w c0 m → Behind (k + length deeds) (w + brought_in deeds) (fold driven c0 ls) (course m ls deeds).machine
 next_phase k w c0 m ls deeds is b =
     let s = phase_beside k w c0 m ls deeds b in
     let n = ap (λ (l : List Deed). length l) is in

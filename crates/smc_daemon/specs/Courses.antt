@@ -42,3 +42,11 @@ DrivesFrom d m before (p ∷ ps) h =
     (part : List Entry) × (rest : List Entry) × (h ≡ part ++ EndPhase ∷ rest)
     × (list_any is_end part ≡ false) × Drives d m p before part
     × DrivesFrom d (machine_behind d m p before part) (before ++ part ++ EndPhase ∷ []) ps rest
+
+-- The same, and the last machine is the one behind these phases.
+abbrev pub DrivesTo : ℕ → Machine → List Entry → List Phase → List Entry → Machine → Type 0
+DrivesTo d m before [] h last = (h ≡ []) × (last ≡ m)
+DrivesTo d m before (p ∷ ps) h last =
+    (part : List Entry) × (rest : List Entry) × (h ≡ part ++ EndPhase ∷ rest)
+    × (list_any is_end part ≡ false) × Drives d m p before part
+    × DrivesTo d (machine_behind d m p before part) (before ++ part ++ EndPhase ∷ []) ps rest last

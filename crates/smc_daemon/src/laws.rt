@@ -2,6 +2,7 @@
 
 ghost use Rattle.smc_daemon.specs.Laws.{LeastOfCourses, MostOfCourses, PolledInCourses};
 ghost use Rattle.smc_daemon.specs.Laws.{LeastOfDaemons, MostOfDaemons, BroughtByPackets};
+ghost use Rattle.smc_daemon.specs.Laws.{MostOfBegun, DrivesOn, DrivesAll};
 
 /// A machine makes as much at least as where no receive gives a report, and at most as much more as
 /// its reports bring: three for each receive that its polls ask for.
@@ -15,6 +16,17 @@ pub fn courses_bound()
 pub fn daemons_bound()
     ensures least { LeastOfDaemons }
     ensures most { MostOfDaemons }
+{}
+
+/// And so does a daemon that is within a phase, with what it would still make there.
+pub fn begun_bound()
+    ensures { MostOfBegun }
+{}
+
+/// Phases are driven one after another.
+pub fn phases_driven()
+    ensures on { DrivesOn }
+    ensures all { DrivesAll }
 {}
 
 /// What the kernel's reports bring to all daemons of a legal history is bounded by its packets.

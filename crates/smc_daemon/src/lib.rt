@@ -5,5 +5,5 @@
 mod laws;
 mod worked;
 
-pub use laws::{courses_bound, daemons_bound, packets_bring};
+pub use laws::{begun_bound, courses_bound, daemons_bound, packets_bring, phases_driven};
 pub use worked::worked_office;
