@@ -6,3 +6,6 @@ pub mod Extending
 pub mod Nearness
 pub mod Packets
 pub mod Phases
+pub mod Runs
+pub mod Sharing
+pub mod Summing

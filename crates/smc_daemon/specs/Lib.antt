@@ -3,6 +3,8 @@ pub mod Deeds
 pub mod Laws
 pub mod Lines
 pub mod Machines
+pub mod Reaching
 pub mod Reporting
 pub mod Room
+pub mod RunLaws
 pub mod Worked

@@ -3,6 +3,8 @@
 ghost use Rattle.smc_daemon.specs.Laws.{LeastOfCourses, MostOfCourses, PolledInCourses};
 ghost use Rattle.smc_daemon.specs.Laws.{LeastOfDaemons, MostOfDaemons, BroughtByPackets};
 ghost use Rattle.smc_daemon.specs.Laws.{MostOfBegun, DrivesOn, DrivesAll};
+ghost use Rattle.smc_daemon.specs.RunLaws.{RoomOfLegal, LeastOfRuns};
+ghost use Rattle.smc_daemon.specs.RunLaws.{MostOfRuns, MostWithoutMachines};
 
 /// A machine makes as much at least as where no receive gives a report, and at most as much more as
 /// its reports bring: three for each receive that its polls ask for.
@@ -32,4 +34,14 @@ pub fn phases_driven()
 /// What the kernel's reports bring to all daemons of a legal history is bounded by its packets.
 pub fn packets_bring()
     ensures { BroughtByPackets }
+{}
+
+/// All daemons of a scenario together: those that were through made `least` at least. What was made
+/// and what any one of them lacks is not more than `most`, and where none has a machine not more
+/// than `least`; a legal history has room for what was made.
+pub fn runs_bound()
+    ensures room { RoomOfLegal }
+    ensures least { LeastOfRuns }
+    ensures most { MostOfRuns }
+    ensures plain { MostWithoutMachines }
 {}

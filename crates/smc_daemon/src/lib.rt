@@ -5,5 +5,7 @@
 mod laws;
 mod worked;
 
-pub use laws::{begun_bound, courses_bound, daemons_bound, packets_bring, phases_driven};
+pub use laws::{
+    begun_bound, courses_bound, daemons_bound, packets_bring, phases_driven, runs_bound,
+};
 pub use worked::worked_office;
