@@ -7,5 +7,6 @@ pub mod Nearness
 pub mod Packets
 pub mod Phases
 pub mod Runs
+pub mod Sending
 pub mod Sharing
 pub mod Summing

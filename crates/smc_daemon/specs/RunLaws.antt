@@ -1,5 +1,5 @@
 -- How many control entries all daemons of a scenario make.
-use Rattle.std.specs.Prelude.{◌≡◌, ◌+◌, ◌≤◌, ℕ, false, Some, List, length, slice_get, sum_by}
+use Rattle.std.specs.Prelude.{◌≡◌, ◌+◌, ◌≤◌, ℕ, false, Some, List, length, slice_get, sum, sum_by}
 use Rattle.std.specs.List.{list_any}
 use Rattle.mr_base.specs.Outside.{Files}
 use Rattle.mr_model.specs.Legal.{IsLegal}
@@ -20,6 +20,11 @@ pub record IsOf (s : Scenario) (limits : Limits) (h : List Entry) : Type 0 where
 -- There is room for all control entries of a legal history.
 abbrev pub RoomOfLegal : Type 0
 RoomOfLegal = (limits : Limits) (h : List Entry) → IsLegal limits h → controls h ≤ limits.controls
+
+-- It has no more packets than its lanes are given.
+abbrev pub PacketsOfLegal : Type 0
+PacketsOfLegal = (limits : Limits) (h : List Entry)
+    → IsLegal limits h → sum_by packets_in h ≤ sum limits.packets
 
 -- Daemons that were through made the least at least.
 abbrev pub LeastOfRuns : Type 0

@@ -3,7 +3,7 @@
 ghost use Rattle.smc_daemon.specs.Laws.{LeastOfCourses, MostOfCourses, PolledInCourses};
 ghost use Rattle.smc_daemon.specs.Laws.{LeastOfDaemons, MostOfDaemons, BroughtByPackets};
 ghost use Rattle.smc_daemon.specs.Laws.{MostOfBegun, DrivesOn, DrivesAll};
-ghost use Rattle.smc_daemon.specs.RunLaws.{RoomOfLegal, LeastOfRuns};
+ghost use Rattle.smc_daemon.specs.RunLaws.{RoomOfLegal, PacketsOfLegal, LeastOfRuns};
 ghost use Rattle.smc_daemon.specs.RunLaws.{MostOfRuns, MostWithoutMachines};
 
 /// A machine makes as much at least as where no receive gives a report, and at most as much more as
@@ -38,9 +38,10 @@ pub fn packets_bring()
 
 /// All daemons of a scenario together: those that were through made `least` at least. What was made
 /// and what any one of them lacks is not more than `most`, and where none has a machine not more
-/// than `least`; a legal history has room for what was made.
+/// than `least`. A legal history has room for what was made, and for its packets.
 pub fn runs_bound()
     ensures room { RoomOfLegal }
+    ensures packets { PacketsOfLegal }
     ensures least { LeastOfRuns }
     ensures most { MostOfRuns }
     ensures plain { MostWithoutMachines }

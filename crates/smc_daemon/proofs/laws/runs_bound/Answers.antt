@@ -1,4 +1,5 @@
 use Rattle.smc_daemon.proofs.Runs as lemma
+use Rattle.smc_daemon.proofs.Sending as sending
 use Rattle.smc_daemon.proofs.laws.runs_bound.Goals as goal
 
 pub returns-clause-room : goal.returns-clause-room
@@ -12,3 +13,6 @@ returns-clause-most c = lemma.most_of_runs
 
 pub returns-clause-plain : goal.returns-clause-plain
 returns-clause-plain c = lemma.most_without
+
+pub returns-clause-packets : goal.returns-clause-packets
+returns-clause-packets c = sending.packets_of_legal
