@@ -13,14 +13,13 @@ use Rattle.mr_scenario.specs.declared.scenario.Phase.{Phase}
 use Rattle.smc_core.specs.Driving.{Course, Line, driven, smc}
 use Rattle.smc_core.specs.Machine.{Machine}
 use Rattle.smc_rules.specs.declared.learned.Learned.{Learned}
-use Rattle.smc_daemon.specs.Courses.{course, Drives, DrivesFrom, DrivesTo, IsBegun, machine_behind}
+use Rattle.smc_daemon.specs.Courses.{Drives, DrivesFrom, DrivesTo, IsBegun, machine_behind}
 use Rattle.smc_daemon.specs.Deeds.{did, deeds_in}
 use Rattle.smc_daemon.specs.Lines.{lines_in}
 use Rattle.smc_daemon.specs.Reporting.{brought, brought_in}
-use Rattle.smc_daemon.proofs.Besides.{Beside}
 use Rattle.smc_daemon.proofs.Bringing.{course_brings}
 use Rattle.smc_daemon.proofs.Counted.{Alike, alike_append, did_alike, did_parts}
-use Rattle.smc_daemon.proofs.Extending.{Extends, lines_extend}
+use Rattle.smc_daemon.proofs.Extending.{lines_extend}
 use Rattle.smc_daemon.proofs.Phases.{Behind, phase_beside, next_phase}
 
 -- behind phases that were driven
@@ -72,9 +71,20 @@ begun_most d first done left p before part m missing none drives begun =
     ∙ fold-append driven c0 (lines_in d p) (flat_map (lines_in d) left) in
     let all = ap (λ (c : Course). length c.deeds) joined in
     let a = did_behind d before part in
-    omega (arith, s.upper, all, ap (λ (l : List Deed). length l) e.is, length-append c1.deeds e.more,
-    ap (λ (l : List Deed). length l) begun, length-append deeds missing, course_brings m (lines_in d p) deeds,
-    a.many, a.brought, length-append (did d [] before) deeds, sum_by-append brought (did d [] before) deeds)
+    omega (
+      arith,
+      s.upper,
+      all,
+      ap (λ (l : List Deed). length l) e.is,
+      length-append c1.deeds e.more,
+      ap (λ (l : List Deed). length l) begun,
+      length-append deeds missing,
+      course_brings m (lines_in d p) deeds,
+      a.many,
+      a.brought,
+      length-append (did d [] before) deeds,
+      sum_by-append brought (did d [] before) deeds,
+    )
 
 -- one phase more
 snoc_before : (before part h : List Entry) → (before ++ part ++ EndPhase ∷ []) ++ h ≡ before ++ (part ++ EndPhase ∷ h)
@@ -94,9 +104,14 @@ drives_on (q ∷ ps) d first m p before h part (own, rest, is, own_open, own_dri
     let stands : h ++ part ++ EndPhase ∷ [] ≡ own ++ EndPhase ∷ (rest ++ part ++ EndPhase ∷ []) =
     ap (λ (x : List Entry). x ++ part ++ EndPhase ∷ []) is
     ∙ ap (λ (x : List Entry). x ++ EndPhase ∷ []) (append_assoc own (EndPhase ∷ rest) part)
-    ∙ append_assoc own (EndPhase ∷ (rest ++ part)) (EndPhase ∷ []) in
-    (own, rest ++ part ++ EndPhase ∷ [], stands, own_open, own_drives,
-    subst (λ (x : List Entry). DrivesTo d (machine_behind d first q before own) b (ps ++ p ∷ []) (rest ++ part ++ EndPhase ∷ []) (machine_behind d m p x part)) (sym whole) later)
+    ∙ append_assoc own (EndPhase ∷ (rest ++ part)) (EndPhase ∷ []) in (
+      own,
+      rest ++ part ++ EndPhase ∷ [],
+      stands,
+      own_open,
+      own_drives,
+      subst (λ (x : List Entry). DrivesTo d (machine_behind d first q before own) b (ps ++ p ∷ []) (rest ++ part ++ EndPhase ∷ []) (machine_behind d m p x part)) (sym whole) later,
+    )
 
 pub drives_all : (ps : List Phase) (d : ℕ) (first m : Machine) (before h : List Entry) → DrivesTo d first before ps h m → DrivesFrom d first before ps h
 drives_all [] d first m before h (is, same) = is

@@ -1,7 +1,7 @@
 -- A course beside the one in which no receive gives a report: it makes as much at least, and at most as
 -- much more as its reports bring.
-use Rattle.std.proofs.Common.{◌≡◌, ◌∙◌, ◌+◌, ◌-◌, ◌≤◌, ℕ, zero, suc, Bool, true, false, if◌then◌else◌, Option, Some, None, List, [], ◌∷◌, ◌++◌, length, take, refl, sym, ap, ap₂, subst, append-nil, arith}
-use Rattle.std.specs.Prelude.{◌==◌, codes, sum_by, min}
+use Rattle.std.proofs.Common.{◌≡◌, ◌∙◌, ◌+◌, ◌-◌, ◌≤◌, ℕ, zero, suc, Bool, true, false, if◌then◌else◌, Option, Some, None, List, [], ◌∷◌, ◌++◌, length, refl, sym, ap, ap₂, subst, append-nil, arith}
+use Rattle.std.specs.Prelude.{◌==◌, codes}
 use Rattle.std.specs.List.{fold}
 use Rattle.std.specs.Option.{option_map_or}
 use Rattle.std.proofs.lemmas.List.{length-append, length-take}
@@ -13,12 +13,11 @@ use Rattle.mr_model.specs.declared.message.Kind.TheVariants as kind
 use Rattle.mr_model.specs.declared.message.Told.{Told}
 use Rattle.mr_model.specs.declared.reply.Reply.{Reply}
 use Rattle.mr_model.specs.declared.request.Request.{Request}
-use Rattle.smc_core.specs.Driving.{Course, Line, Start, Poll, Tick, Command, Answer, Replied, Reported, next_reply, next_report, ask, asked, worked_off, received, handled, polled, driven, smc}
+use Rattle.smc_core.specs.Driving.{Course, Line, Start, Poll, Tick, Command, Answer, next_reply, next_report, ask, worked_off, received, handled, polled, driven, smc}
 use Rattle.smc_core.specs.Machine.{Machine, Turn, silent}
-use Rattle.smc_core.specs.Replies.{reply, followed, settled, kept, plan_after}
+use Rattle.smc_core.specs.Replies.{reply, settled, kept, plan_after}
 use Rattle.smc_core.specs.Reports.{report, report_by, learning}
 use Rattle.smc_core.specs.Smc.{command}
-use Rattle.smc_core.specs.declared.plan.Plan.{Plan}
 use Rattle.smc_rules.specs.Reports.{asked_for}
 use Rattle.smc_rules.specs.declared.learned.Learned.{Learned}
 use Rattle.smc_daemon.specs.Reporting.{brought, brought_by, brought_in}

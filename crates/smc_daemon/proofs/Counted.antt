@@ -1,16 +1,16 @@
 -- How much a daemon did, and what its reports bring, are sums over the parts of a history.
-use Rattle.std.proofs.Common.{◌≡◌, ◌∙◌, ◌+◌, ◌≤◌, ℕ, Bool, true, false, if◌then◌else◌, Option, Some, None, List, [], ◌∷◌, ◌++◌, length, refl, sym, ap, ap₂, arith}
-use Rattle.std.specs.Prelude.{◌==◌, flat_map, option_map, sum_by}
+use Rattle.std.proofs.Common.{◌≡◌, ◌∙◌, ◌+◌, ℕ, Bool, true, false, if◌then◌else◌, Option, Some, None, List, [], ◌∷◌, ◌++◌, length, refl, sym, ap, ap₂, arith}
+use Rattle.std.specs.Prelude.{◌==◌, flat_map}
 use Rattle.std.proofs.lemmas.Grind.{flat_map-append}
 use Rattle.std.proofs.lemmas.List.{length-append}
 use Rattle.std.proofs.lemmas.List.Sums.{sum_by-append}
-use Rattle.mr_model.specs.Deeds.{Deed, Asked, Received, Ticked}
+use Rattle.mr_model.specs.Deeds.{Deed, Received}
 use Rattle.mr_model.specs.declared.entry.Entry.{Entry}
 use Rattle.mr_model.specs.declared.entry.Entry.TheVariants.{Call, Slow, Settle, Tick, Recv, EndPhase}
 use Rattle.mr_model.specs.declared.flow.Flow.{Flow}
 use Rattle.mr_model.specs.declared.message.MessageId.{MessageId}
-use Rattle.smc_daemon.specs.Deeds.{did, deeds_in, slow_flow, told, told_by}
-use Rattle.smc_daemon.specs.Reporting.{brought, brought_by, brought_in}
+use Rattle.smc_daemon.specs.Deeds.{did, deeds_in, slow_flow, told_by}
+use Rattle.smc_daemon.specs.Reporting.{brought, brought_in}
 
 -- Two lists of deeds are of one length and bring the same.
 pub record Alike (xs ys : List Deed) : Type 0 where

@@ -6,8 +6,8 @@ use Rattle.std.specs.Option.{option_map_or}
 use Rattle.mr_model.specs.Deeds.{Deed, Asked, Received, Ticked}
 use Rattle.mr_model.specs.declared.message.Told.{Told}
 use Rattle.mr_model.specs.declared.request.Request.{Request}
-use Rattle.smc_core.specs.Driving.{Course, Line, Start, Poll, Tick, Command, Answer, ask, asked, worked_off, received, handled, polled, driven, next_reply, next_report}
-use Rattle.smc_core.specs.Machine.{Machine, Turn}
+use Rattle.smc_core.specs.Driving.{Course, Line, Start, Poll, Tick, Command, Answer, ask, worked_off, received, handled, polled, driven, next_reply, next_report}
+use Rattle.smc_core.specs.Machine.{Turn}
 use Rattle.smc_core.specs.Reports.{report}
 use Rattle.smc_core.specs.Smc.{command}
 

@@ -1,11 +1,11 @@
 -- What learned routes change in a machine's turn: only further removals, each of which takes off one.
-use Rattle.std.proofs.Common.{◌≡◌, ◌∙◌, ◌+◌, ◌≤◌, ℕ, zero, suc, Bool, true, false, if◌then◌else◌, Option, Some, None, Result, Ok, Err, List, [], ◌∷◌, ◌++◌, length, map, refl, sym, ap, arith}
+use Rattle.std.proofs.Common.{◌≡◌, ◌+◌, ◌≤◌, ℕ, Bool, true, false, if◌then◌else◌, None, Result, Ok, Err, List, [], ◌∷◌, ◌++◌, length, map, refl, arith}
 use Rattle.std.specs.Prelude.{bytes_eq, codes, filter, not}
 use Rattle.std.proofs.lemmas.List.{length-append, length-map}
 use Rattle.std.proofs.lemmas.List.Filters.{length-filter_both}
 use Rattle.mr_model.specs.declared.request.Request.{Request}
 use Rattle.mr_words.specs.Binds.{◌>>=◌}
-use Rattle.smc_core.specs.Changing.{add, remove, is_of, with_the_rule, without_the_rule, undoing, left_by, removing}
+use Rattle.smc_core.specs.Changing.{add, remove, is_of, without_the_rule}
 use Rattle.smc_core.specs.Ending.{flush, kill, poll}
 use Rattle.smc_core.specs.Joining.{group_in, join, leave}
 use Rattle.smc_core.specs.Machine.{Machine, Turn, asking, saying}
@@ -13,16 +13,15 @@ use Rattle.smc_core.specs.Mistakes.{wants}
 use Rattle.smc_core.specs.Ranges.{range_of, active_key, is_none_behind, names_from}
 use Rattle.smc_core.specs.Showing.{show_text, shown}
 use Rattle.smc_core.specs.Smc.{command, by_state, by_word, while_running, while_stopped, told_off, show}
-use Rattle.smc_core.specs.Starting.{start, reload, reloading, reloaded}
+use Rattle.smc_core.specs.Starting.{start, reload, reloaded}
 use Rattle.smc_core.specs.declared.mistake.Mistake.{Mistake}
 use Rattle.smc_core.specs.declared.mistake.Mistake.TheVariants as mistake
 use Rattle.smc_core.specs.declared.plan.Plan.{Plan}
 use Rattle.smc_rules.specs.Groups.{has_group}
 use Rattle.smc_rules.specs.Keys.{is_exact}
-use Rattle.smc_rules.specs.Requests.{del_route, del_learned, rule_requests, vif_requests}
+use Rattle.smc_rules.specs.Requests.{del_route, del_learned}
 use Rattle.smc_rules.specs.Rules.{has_rule}
-use Rattle.smc_rules.specs.Settings.{makings, clearings}
-use Rattle.smc_rules.specs.declared.aim.Aim.TheVariants as aim
+use Rattle.smc_rules.specs.Settings.{makings}
 use Rattle.smc_rules.specs.declared.key.Key.{Key}
 use Rattle.smc_rules.specs.declared.learned.Learned.{Learned}
 use Rattle.smc_words.specs.Words.{Word, command_words}

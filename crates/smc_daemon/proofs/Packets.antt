@@ -1,6 +1,6 @@
 -- What the reports that were received bring, those that are unread would bring, and two for each packet
 -- that waits, are at most five for each packet.
-use Rattle.std.proofs.Common.{◌≡◌, ◌∙◌, ℕ, suc, ◌+◌, ◌-◌, ◌*◌, ◌≤◌, nat_lt, Bool, true, false, not, if◌then◌else◌, Option, Some, None, is_some, unwrap_or, List, [], ◌∷◌, ◌++◌, length, drop, fold, flat_map, filter, refl, sym, ap, subst, arith}
+use Rattle.std.proofs.Common.{◌≡◌, ℕ, suc, ◌+◌, ◌-◌, ◌*◌, ◌≤◌, nat_lt, Bool, true, false, not, if◌then◌else◌, Option, Some, None, is_some, unwrap_or, List, [], ◌∷◌, ◌++◌, length, drop, fold, flat_map, filter, refl, sym, ap, arith}
 use Rattle.std.specs.Prelude.{sum_by}
 use Rattle.std.proofs.lemmas.List.{length-append}
 use Rattle.std.proofs.lemmas.List.Sums.{sum_by-cons, sum_by-append, sum_by_push}
@@ -14,11 +14,11 @@ use Rattle.mr_model.specs.Legal.{Agrees, IsLegal, front}
 use Rattle.mr_model.specs.Messages.{told_by, no_cache}
 use Rattle.mr_model.specs.Outcome.{judged}
 use Rattle.mr_model.specs.Past.{packets_in}
-use Rattle.mr_model.specs.State.{State, state, step, granted, reported, after_released, told_by_parked, is_there, is_owner}
+use Rattle.mr_model.specs.State.{State, state, step, granted, reported, after_released, is_there, is_owner}
 use Rattle.mr_model.specs.VifList.{vif_on, has_flag}
-use Rattle.mr_model.specs.WaitingList.{Waiter, Awaiting, is_awaiting, awaiting_of, park, without_awaiting, unexpired}
+use Rattle.mr_model.specs.WaitingList.{Waiter, Awaiting, is_awaiting, awaiting_of, park, without_awaiting}
 use Rattle.mr_model.specs.declared.entry.Entry.{Entry}
-use Rattle.mr_model.specs.declared.entry.Entry.TheVariants.{Call, Slow, Settle, Tick, Recv, EndPhase}
+use Rattle.mr_model.specs.declared.entry.Entry.TheVariants.{Call, Slow, Tick, Recv}
 use Rattle.mr_model.specs.declared.entry.ReleasedId.{ReleasedId}
 use Rattle.mr_model.specs.declared.flow.Flow.{Flow}
 use Rattle.mr_model.specs.declared.limits.Limits.{Limits}

@@ -1,6 +1,6 @@
 -- A daemon's entries over phases are as many as its course without reports at least, and at most as many
 -- more as its reports bring.
-use Rattle.std.proofs.Common.{◌≡◌, ◌∙◌, ◌+◌, ◌≤◌, ℕ, List, [], ◌∷◌, ◌++◌, length, refl, sym, ap, subst, arith}
+use Rattle.std.proofs.Common.{◌≡◌, ◌+◌, ◌≤◌, ℕ, List, [], ◌∷◌, ◌++◌, length, refl, sym, ap, subst, arith}
 use Rattle.std.specs.Prelude.{flat_map}
 use Rattle.std.specs.List.{fold}
 use Rattle.std.proofs.lemmas.List.{length-append}
@@ -9,7 +9,7 @@ use Rattle.mr_model.specs.Deeds.{Deed}
 use Rattle.mr_model.specs.declared.entry.Entry.{Entry}
 use Rattle.mr_model.specs.declared.entry.Entry.TheVariants.{EndPhase}
 use Rattle.mr_scenario.specs.declared.scenario.Phase.{Phase}
-use Rattle.smc_core.specs.Driving.{Course, Line, driven, smc, answers_in}
+use Rattle.smc_core.specs.Driving.{Course, Line, driven, smc}
 use Rattle.smc_core.specs.Machine.{Machine}
 use Rattle.smc_rules.specs.declared.learned.Learned.{Learned}
 use Rattle.smc_daemon.specs.Courses.{course, DrivesFrom, machine_behind}

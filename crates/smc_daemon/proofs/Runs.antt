@@ -1,5 +1,5 @@
 -- The bounds of all daemons of a scenario.
-use Rattle.std.proofs.Common.{◌≡◌, ◌∙◌, ◌+◌, ◌*◌, ◌≤◌, ◌<◌, ℕ, zero, suc, min, Bool, true, false, Option, Some, None, List, [], ◌∷◌, ◌++◌, length, refl, sym, ap, subst, arith}
+use Rattle.std.proofs.Common.{◌≡◌, ◌+◌, ◌*◌, ◌≤◌, ℕ, zero, suc, min, false, Some, List, [], ◌∷◌, ◌++◌, length, refl, sym, ap, subst, arith}
 use Rattle.std.specs.Prelude.{cond, flat_map, slice_get, sum_by}
 use Rattle.std.specs.List.{list_any}
 use Rattle.std.proofs.lemmas.Bool.{or_parts}
@@ -25,7 +25,7 @@ use Rattle.smc_daemon.specs.Deeds.{did}
 use Rattle.smc_daemon.specs.Lines.{lines_in}
 use Rattle.smc_daemon.specs.Machines.{machine_of}
 use Rattle.smc_daemon.specs.Reaching.{OfEach, Ran, Reach, IsReach, Lacks, made}
-use Rattle.smc_daemon.specs.Reporting.{brought, brought_in, brought_to_all}
+use Rattle.smc_daemon.specs.Reporting.{brought, brought_in}
 use Rattle.smc_daemon.specs.Room.{asked_reports, least_by, least_from, least, polled, most}
 use Rattle.smc_daemon.specs.RunLaws.{IsOf}
 use Rattle.smc_daemon.proofs.Begun.{begun_most, did_behind}
@@ -34,7 +34,7 @@ use Rattle.smc_daemon.proofs.Counted.{did_parts}
 use Rattle.smc_daemon.proofs.Packets.{packets_bring}
 use Rattle.smc_daemon.proofs.Phases.{drives_counts}
 use Rattle.smc_daemon.proofs.Sharing.{all_made, all_brought, phases_ask}
-use Rattle.smc_daemon.proofs.Summing.{sum_from, sum_le, sum_same, sum_both, sum_none, EachFrom, each_from, sum_each, sum_of}
+use Rattle.smc_daemon.proofs.Summing.{sum_from, sum_le, sum_both, EachFrom, each_from, sum_each, sum_of}
 
 -- room for all control entries
 room_push : (limits : Limits) (g : List Entry) (e : Entry) → Agrees limits g e → controls g ≤ limits.controls → controls (g ++ e ∷ []) ≤ limits.controls

@@ -1,5 +1,5 @@
 -- A legal history has no more packets than its lanes are given.
-use Rattle.std.proofs.Common.{◌≡◌, ◌∙◌, ◌+◌, ◌-◌, ◌≤◌, ◌<◌, ℕ, zero, suc, Bool, true, false, if◌then◌else◌, Option, Some, None, List, [], ◌∷◌, ◌++◌, length, refl, sym, ap, subst, arith}
+use Rattle.std.proofs.Common.{◌≡◌, ◌+◌, ◌-◌, ◌≤◌, ℕ, zero, suc, Bool, true, false, if◌then◌else◌, Some, List, [], ◌∷◌, ◌++◌, length, refl, ap, subst, arith}
 use Rattle.std.specs.Prelude.{◌==◌, slice_get, slice_index, sum, sum_by}
 use Rattle.std.proofs.lemmas.List.Sums.{sum_by-cons, sum_by_push}
 use Rattle.mr_base.specs.declared.numbers.LaneNo.{LaneNo}
@@ -9,7 +9,7 @@ use Rattle.mr_model.specs.declared.entry.Entry.{Entry}
 use Rattle.mr_model.specs.declared.entry.Entry.TheVariants.{Call, Slow, Settle, Tick, Recv, EndPhase}
 use Rattle.mr_model.specs.declared.limits.Limits.{Limits}
 use Rattle.mr_model.proofs.Induction.{legal_induction, same_lane}
-use Rattle.smc_daemon.proofs.Summing.{EachFrom, each_from, hits, sum_both, sum_each, sum_from, sum_none}
+use Rattle.smc_daemon.proofs.Summing.{EachFrom, each_from, hits, sum_each, sum_from, sum_none}
 
 abbrev lane : ℕ → LaneNo
 lane n = record { 0 = n }

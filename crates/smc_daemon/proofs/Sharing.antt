@@ -1,10 +1,10 @@
 -- Each control entry, each report and each poll is one daemon's.
-use Rattle.std.proofs.Common.{◌≡◌, ◌∙◌, ◌+◌, ◌*◌, ◌≤◌, ◌<◌, ℕ, Bool, true, false, if◌then◌else◌, Option, Some, None, List, [], ◌∷◌, ◌++◌, length, refl, sym, ap, subst, arith}
+use Rattle.std.proofs.Common.{◌≡◌, ◌∙◌, ◌+◌, ◌≤◌, ℕ, Bool, true, false, if◌then◌else◌, Option, Some, None, List, [], ◌∷◌, ◌++◌, length, refl, arith}
 use Rattle.std.specs.Prelude.{◌==◌, cond, flat_map, sum_by}
 use Rattle.std.proofs.lemmas.List.{length-append}
 use Rattle.std.proofs.lemmas.List.Sums.{sum_by-append, sum_by-cons}
 use Rattle.mr_model.specs.Deeds.{Deed, Asked, Received, Ticked}
-use Rattle.mr_model.specs.Legal.{Agrees, IsDaemon, LegalFrom}
+use Rattle.mr_model.specs.Legal.{Agrees, LegalFrom}
 use Rattle.mr_model.specs.Past.{is_control, controls}
 use Rattle.mr_model.specs.declared.entry.Entry.{Entry}
 use Rattle.mr_model.specs.declared.entry.Entry.TheVariants.{Call, Slow, Settle, Tick, Recv, EndPhase}
@@ -16,7 +16,6 @@ use Rattle.mr_scenario.specs.declared.scenario.Phase.{Phase}
 use Rattle.mr_scenario.specs.declared.scenario.Script.{Script}
 use Rattle.mr_scenario.specs.declared.scenario.Script.TheVariants as script
 use Rattle.mr_scenario.specs.declared.scenario.ScriptLine.{ScriptLine}
-use Rattle.smc_core.specs.Driving.{Line}
 use Rattle.smc_daemon.specs.Deeds.{deeds_in, slow_flow, told, told_by}
 use Rattle.smc_daemon.specs.Lines.{driving, of_daemon, lines_among, lines_in}
 use Rattle.smc_daemon.specs.Reporting.{brought, brought_by, brought_in, brought_at, brought_to_all}

@@ -24,6 +24,7 @@ use Rattle.smc_core.specs.Machine.{Machine}
 use Rattle.smc_core.specs.Worked.{addr, add_vif, add_mfc, news, film}
 use Rattle.smc_daemon.specs.Courses.{machine_behind}
 use Rattle.smc_daemon.specs.Machines.{machine_of}
+use Rattle.smc_daemon.specs.Reaching.{Reach}
 use Rattle.smc_words.specs.Words.{Word}
 
 abbrev pub conf_name : Word
@@ -128,3 +129,13 @@ history = started ++ EndPhase ∷ missed ++ EndPhase ∷ polled ++ EndPhase ∷ 
 -- the machine behind the first phase
 abbrev pub running : Machine
 running = machine_behind 1 machine first_phase [] started
+
+-- the third phase is begun, and its report is not handled yet
+abbrev pub reach : Reach
+reach = record {
+  done = first_phase ∷ second_phase ∷ [];
+  before = before;
+  begun = third_phase;
+  part = heard ∷ [];
+  ahead = [];
+}

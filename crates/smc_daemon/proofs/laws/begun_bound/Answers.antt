@@ -1,4 +1,4 @@
-use Rattle.std.proofs.Common.{◌≡◌, ◌≤◌, ◌+◌, List, [], ◌∷◌, ◌++◌, length, refl, sym, ap, subst}
+use Rattle.std.proofs.Common.{◌≤◌, ◌+◌, List, [], ◌++◌, length, refl, sym, subst}
 use Rattle.std.specs.Prelude.{flat_map}
 use Rattle.mr_scenario.specs.declared.scenario.Phase.{Phase}
 use Rattle.smc_core.specs.Driving.{smc}

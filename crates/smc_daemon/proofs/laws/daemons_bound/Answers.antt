@@ -1,4 +1,4 @@
-use Rattle.std.proofs.Common.{refl, arith, [], ◌≤◌, ◌+◌, length}
+use Rattle.std.proofs.Common.{refl, arith}
 use Rattle.smc_daemon.specs.Machines.{machine_of}
 use Rattle.smc_daemon.proofs.Phases.{drives_counts}
 use Rattle.smc_daemon.proofs.laws.daemons_bound.Goals as goal
