@@ -2,6 +2,7 @@
 //! with the machine that makes them.
 #![tactic(auto)]
 
+mod answering;
 mod ending;
 mod following;
 mod laws;
@@ -15,5 +16,6 @@ mod taking;
 #[cfg(test)]
 mod tests;
 
+pub use answering::CallAnswer;
 pub use laws::looks_aside;
 pub use plain::Plain;

@@ -1,12 +1,14 @@
 //! The plain machine as an object.
 
 ghost use Rattle.std.specs.Prelude.{◌≡◌, ◌↔◌, true, IsTrue, IfOk, Ok, []};
+ghost use Rattle.mr_model.specs.Answer.{answer};
 ghost use Rattle.mr_model.specs.Ending.{ending};
 ghost use Rattle.mr_model.specs.Verdict.{verdict};
 ghost use Rattle.mr_plain.specs.Following.{Follows};
 ghost use Rattle.mr_plain.specs.Holding.{with_entry};
 ghost use Rattle.mr_plain.specs.Pasts.{AreSmall};
 
+use crate::answering::{CallAnswer, answer_of};
 use crate::ending::gather;
 use crate::following::follows;
 use crate::lines::take_lines;
@@ -14,8 +16,8 @@ use crate::meeting::take_mets;
 use crate::past::Past;
 use crate::room::make_room;
 use crate::taking::take;
-use mr_base::{Log, Memory};
-use mr_model::{Ending, Entry, FateLine, Flow, Limits, Verdict};
+use mr_base::{DaemonNo, Log, Memory};
+use mr_model::{Ending, Entry, FateLine, Flow, Limits, Request, Verdict};
 use mr_plain_lists::{Known, Meeting, verdict};
 use std::alloc::{AllocError, Global};
 use std::marker::Model;
@@ -101,6 +103,30 @@ impl Plain {
             self.known.routes.as_slice(),
             flow,
         )
+    }
+
+    /// What the machine answers to a call behind the history.
+    ///
+    /// # Errors
+    ///
+    /// [`Memory`] where memory runs out.
+    pub fn answer(
+        &self,
+        alloc: Global,
+        daemon: DaemonNo,
+        request: &Request,
+    ) -> Result<CallAnswer, Memory>
+        ensures reply { IfOk result (λ a. a.reply
+            ≡ (answer self.now.limits self.now.history daemon request.now).reply) }
+        ensures released { IfOk result (λ a. a.released
+            ≡ (answer self.now.limits self.now.history daemon request.now).released) }
+    {
+        let known = &self.known;
+        let mets = self.mets.as_slice();
+        match answer_of(alloc, known, mets, &self.limits, daemon, request) {
+            Ok(answer) => Ok(answer),
+            Err(AllocError) => Err(Memory),
+        }
     }
 
     /// What the history ends with: the live entries and vifs with their totals, and the fate of

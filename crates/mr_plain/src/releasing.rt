@@ -2,6 +2,7 @@
 
 ghost use Rattle.std.specs.Prelude.{◌≡◌, ℕ, ◌<◌, ◌≤◌, ◌∷◌, ◌↔◌, IsTrue, if◌then◌else◌, List};
 ghost use Rattle.std.specs.Prelude.{false, option_map, option_to_list, length, map};
+ghost use Rattle.std.specs.Prelude.{IfOk};
 ghost use Rattle.std.specs.List.{AllByRecursion, list_any};
 ghost use Rattle.mr_base.specs.declared.numbers.LaneNo.{LaneNo};
 ghost use Rattle.mr_base.specs.declared.vif_record.VifRecord.{VifRecord};
@@ -22,6 +23,7 @@ use mr_plain_lists::{
     Held, Known, Reports, group_of, has_named, is_entry, is_owner, judged, proxy_in, reaches,
     reports_of, thresholds, vif_on,
 };
+use std::alloc::{AllocError, Global};
 
 /// The first (0.0.0.0, 0.0.0.0) entry that reaches a vif, with a new entry in front.
 fn proxy_with(first: &Route, rest: &[Route], vif: u8) -> Option<Route>
@@ -92,6 +94,41 @@ fn reports_after(known: &Known, route: &Route, reports: Reports, outcome: &Outco
         _ => reports.last,
     };
     Reports { unread, last }
+}
+
+/// The packets that a new entry releases, with what becomes of each.
+///
+/// # Errors
+///
+/// Where memory runs out.
+fn put_released(
+    alloc: Global,
+    known: &Known,
+    route: &Route,
+    reports: Reports,
+    packets: &[Held],
+) -> Result<Vec<ReleasedId>, AllocError>
+    requires { AllByRecursion (λ v. v.vif < 32) known.now.vifs.items }
+    ensures { (s : State) → Releases known.now route.now s → Reporting reports route.now s →
+        IfOk result (λ v. v.items ≡ release s route.now (map waiter packets.now)) }
+{
+    let [w, later @ ..] = packets else {
+        return Ok(Vec::new(alloc));
+    };
+    let vif = vif_on(known.vifs.as_slice(), w.flow.dev);
+    let proxied = proxied_with(route, known.routes.as_slice(), vif);
+    let outcome = judged(known, reports, proxied, route, w.flow.dev, w.flow.ttl);
+    let reports = reports_after(known, route, reports, &outcome);
+    let mut released = put_released(alloc, known, route, reports, later)?;
+    released.insert(
+        0,
+        ReleasedId {
+            lane: w.lane,
+            index: w.index,
+            outcome,
+        },
+    )?;
+    Ok(released)
 }
 
 /// Whether these are the packets that a new entry releases, with what becomes of each.
@@ -167,6 +204,66 @@ fn released_for(
             let packets = &group.packets[..group.count];
             are_released(known, &route, reports, packets, released)
         }
+    }
+}
+
+/// The packets that a call with this entry releases; `parent`: where it too names the entry.
+///
+/// # Errors
+///
+/// Where memory runs out.
+fn released_of(
+    alloc: Global,
+    known: &Known,
+    daemon: DaemonNo,
+    c: &MfcCtl,
+    parent: Option<u16>,
+) -> Result<Vec<ReleasedId>, AllocError>
+    requires vifs { AllByRecursion (λ v. v.vif < 32) known.now.vifs.items }
+    requires groups { AreGroups known.now.waiting.items }
+    requires parent { c.now.parent < 32 }
+    requires room { known.now.count < 4294967295 }
+    ensures { (s : State) → (list_any (is_named c.now.src c.now.dst parent) known.now.routes.items
+        ≡ false → IsGranted known.now (made_route (state_of known.now) daemon c.now) s) →
+        IfOk result (λ v. v.items ≡ release s (made_route (state_of known.now) daemon c.now)
+        (freed_by (state_of known.now) c.now parent)) }
+{
+    if has_named(known.routes.as_slice(), c.src, c.dst, parent) {
+        return Ok(Vec::new(alloc));
+    }
+    match group_of(known.waiting.as_slice(), c.src, c.dst) {
+        None => Ok(Vec::new(alloc)),
+        Some(group) => {
+            let route = made_route(known, daemon, c);
+            let reports = reports_of(known, &route);
+            let packets = &group.packets[..group.count];
+            put_released(alloc, known, &route, reports, packets)
+        }
+    }
+}
+
+/// The packets that a good call releases.
+///
+/// # Errors
+///
+/// Where memory runs out.
+pub fn released_by(
+    alloc: Global,
+    known: &Known,
+    daemon: DaemonNo,
+    request: &Request,
+) -> Result<Vec<ReleasedId>, AllocError>
+    requires vifs { AllByRecursion (λ v. v.vif < 32) known.now.vifs.items }
+    requires groups { AreGroups known.now.waiting.items }
+    requires small { IsSmall request.now }
+    requires room { known.now.count < 4294967295 }
+    ensures { (limits : Limits) → IfOk result (λ v. v.items
+        ≡ released_in limits (state_of known.now) daemon request.now) }
+{
+    match request {
+        Request::AddMfc(ctl) => released_of(alloc, known, daemon, ctl, None),
+        Request::AddProxy(ctl) => released_of(alloc, known, daemon, ctl, Some(ctl.parent)),
+        _ => Ok(Vec::new(alloc)),
     }
 }
 
