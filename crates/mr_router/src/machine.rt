@@ -21,19 +21,20 @@ use std::marker::{Model, PhantomData};
 
 /// The machine behind the lock. Contracts see its history; its limits are those of the run.
 pub struct Machine<C: RunName> {
-    kernel: Kernel,
+    // Behind the lock it is handed over at each entering, so it lies in a block of its own.
+    kernel: Box<Kernel>,
     of: PhantomData<C>,
 }
 
 impl<C: RunName> Model for Machine<C> {
-    ghost use Rattle.std.specs.Prelude.{◌≡◌, List};
+    ghost use Rattle.std.specs.Prelude.{◌≡◌, List, box_value};
     ghost use Rattle.mr_model.specs.declared.entry.Entry.{Entry};
 
     ghost Value = { List Entry };
 
-    ghost view = { λ c. c.kernel.history };
+    ghost view = { λ c. (box_value c.kernel).history };
 
-    ghost invariant = { λ c. c.kernel.limits ≡ C.limits };
+    ghost invariant = { λ c. (box_value c.kernel).limits ≡ C.limits };
 }
 
 impl<C: RunName> Journaled for Machine<C> {
@@ -58,10 +59,13 @@ impl<C: RunName> Machine<C> {
         ensures { IfOk result (λ c. c ≡ []) }
     {
         let kernel = Kernel::with(alloc, limits)?;
-        Ok(Machine {
-            kernel,
-            of: PhantomData,
-        })
+        match Box::new(alloc, kernel) {
+            Ok(kernel) => Ok(Machine {
+                kernel,
+                of: PhantomData,
+            }),
+            Err(_) => Err(Memory),
+        }
     }
 }
 
@@ -156,10 +160,11 @@ impl<C: RunName> Machine<C> {
         ensures back { result.packet ≡ back_by result.outcome packet }
         ensures legal { IsLegal C.limits self.new }
     {
-        self.kernel.journal().facts();
-        let look = self.kernel.journal().len();
-        let (outcome, packet) = self.kernel.slow(lane, packet, look);
-        self.kernel.facts();
+        let kernel = &mut *self.kernel;
+        kernel.journal().facts();
+        let look = kernel.journal().len();
+        let (outcome, packet) = kernel.slow(lane, packet, look);
+        kernel.facts();
         Handled {
             number: look + 1,
             outcome,
@@ -185,6 +190,6 @@ impl<C: RunName> Machine<C> {
     {
         let Machine { kernel, of: _ } = self;
         kernel.facts();
-        kernel
+        Box::into_inner(kernel)
     }
 }
