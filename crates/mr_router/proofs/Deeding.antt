@@ -15,8 +15,9 @@ use Rattle.mr_model.proofs.Pushing.{legal_at}
 use Rattle.mr_authors.specs.Authors.{daemon_author, own}
 use Rattle.mr_router.specs.Callers.{DaemonValue}
 use Rattle.mr_router.specs.Deeds.{deeds, deeds_in, controls_left, AllHeard}
-use Rattle.mr_router.specs.Histories.{GoesOn, Makes}
+use Rattle.mr_router.specs.Histories.{GoesOn, Makes, WentOn}
 use Rattle.mr_router.proofs.Hearing.{deeds_stay}
+use Rattle.mr_router.proofs.Walking.{prefix_trans}
 
 abbrev pub at : DaemonNo → List Entry → DaemonValue
 at d h = record { daemon = d; seen = h }
@@ -73,3 +74,13 @@ pub daemon_idle : (limits : Limits) (old new : DaemonValue) → new.daemon ≡ o
 daemon_idle limits old new is heard went =
     let same : new ≡ at old.daemon new.seen = ap (λ (d : DaemonNo). at d new.seen) is in
     ap deeds same ∙ deeds_same limits old.daemon old.seen new.seen heard went
+
+-- a daemon that makes an entry, or finds no room, goes on
+pub went_made : (limits : Limits) (old new : DaemonValue) (e : Entry) → new.daemon ≡ old.daemon → Makes limits (daemon_author old.daemon.0) old.seen new.seen e → WentOn old new
+went_made limits old new e same m = record { daemon = same; begins = made_prefix limits (daemon_author old.daemon.0) old.seen new.seen e m }
+
+pub went_on : (limits : Limits) (old new : DaemonValue) → new.daemon ≡ old.daemon → GoesOn limits (daemon_author old.daemon.0) old.seen new.seen → WentOn old new
+went_on limits old new same g = record { daemon = same; begins = g.begins }
+
+pub went_then : (a b c : DaemonValue) → WentOn a b → WentOn b c → WentOn a c
+went_then a b c x y = record { daemon = y.daemon ∙ x.daemon; begins = prefix_trans a.seen b.seen c.seen x.begins y.begins }

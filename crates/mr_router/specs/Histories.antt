@@ -33,3 +33,8 @@ pub record Ends (limits : Limits) (old new : List Entry) (lanes : List LaneValue
   pub seen : new ≡ before ++ EndPhase ∷ []
   pub own : own 0 new ≡ own 0 old ++ EndPhase ∷ []
   pub legal : IsLegal limits new
+
+-- It is the same daemon, and what it had seen begins what it has seen now.
+pub record WentOn (old new : DaemonValue) : Type 0 where
+  pub daemon : new.daemon ≡ old.daemon
+  pub begins : IsPrefix old.seen new.seen

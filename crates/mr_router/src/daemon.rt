@@ -159,8 +159,9 @@ impl<B: BookName, C: RunName> Daemon<B, C> {
         self.left
     }
 
-    // of each report that the daemon got, the packet's Slow stands in what it has seen
-    pub(crate) fn facts(&self)
+    /// Of each report that the daemon got, the packet's Slow stands in what it has seen, so what it
+    /// did is the same in any longer history.
+    pub fn facts(&self)
         ensures { AllHeard self.now.seen (own (daemon_author self.now.daemon.0) self.now.seen) }
     {
         let _ = &self.seat;

@@ -7,6 +7,7 @@
 #![tactic(auto)]
 
 mod bound;
+mod calling;
 mod daemon;
 mod lane;
 mod loops;
@@ -20,6 +21,6 @@ mod signed;
 pub use bound::Bound;
 pub use daemon::Daemon;
 pub use lane::{Handled, Lane};
-pub use names::RunName;
+pub use names::{RunName, TurnName};
 pub use opened::Opened;
 pub use router::{Router, Team};

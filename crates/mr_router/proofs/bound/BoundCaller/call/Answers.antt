@@ -1,22 +1,9 @@
-use Rattle.std.proofs.Common.{◌≡◌, ◌∙◌, Some, None, map, option_map, refl, ap}
-use Rattle.mr_kernel.specs.Flows.{id_of, slow_flow}
-use Rattle.mr_model.specs.declared.entry.Entry.{Entry}
-use Rattle.mr_model.specs.declared.entry.Entry.TheVariants.{Call, Recv, Tick}
-use Rattle.mr_authors.specs.Authors.{daemon_author}
-use Rattle.mr_router.proofs.Deeding.{daemon_deeds, daemon_idle, some_left}
+use Rattle.std.proofs.Common.{◌≡◌, [], ◌∷◌, ◌++◌, subst}
+use Rattle.std.specs.Prelude.{IfOk}
+use Rattle.mr_model.specs.Deeds.{Asked}
+use Rattle.mr_router.specs.Callers.{DaemonValue}
+use Rattle.mr_router.specs.Deeds.{deeds}
 use Rattle.mr_router.proofs.bound.BoundCaller.call.Goals as goal
 
-pub returns-in-Ok-clause-ok : goal.returns-in-Ok-clause-ok
-returns-in-Ok-clause-ok g c =
-    let e = Call c.args.self.now.daemon.daemon c.args.request.now c.in-Ok.reply (map id_of c.in-Ok._freed.items) in
-    daemon_deeds g.C.RunName.limits c.args.self.now.daemon c.call-done.new.self e c.call-done.ensures.daemon c.facts.ensures c.in-Ok.ensures.entry
-
-pub returns-in-Ok-clause-surely : goal.returns-in-Ok-clause-surely
-returns-in-Ok-clause-surely g c =
-    let e = Call c.args.self.now.daemon.daemon c.args.request.now c.in-Ok.reply (map id_of c.in-Ok._freed.items) in
-    let d = c.args.self.now.daemon in
-    λ none. absurd (some_left g.C.RunName.limits d.daemon (daemon_author d.daemon.0) d.seen c.call-done.new.self.seen e refl c.in-Ok.ensures.entry none)
-
-pub returns-in-Err-clause-err : goal.returns-in-Err-clause-err
-returns-in-Err-clause-err g c =
-    daemon_idle g.C.RunName.limits c.args.self.now.daemon c.call-done.new.self c.call-done.ensures.daemon c.facts.ensures c.in-Err.ensures.goes_on
+pub returns-clause-ok : goal.returns-clause-ok
+returns-clause-ok g c = subst (λ (v : DaemonValue). IfOk c.call.result (λ reply. deeds c.call.new.daemon ≡ deeds v ++ Asked c.args.request.now reply ∷ [])) c.self.view_is c.call.ensures.ok

@@ -1,43 +1,9 @@
-use Rattle.std.proofs.Common.{◌≡◌, ◌∙◌, Option, Some, None, IfSome, [], ◌∷◌, ◌++◌, option_map, refl, ap, subst}
-use Rattle.mr_kernel.specs.Flows.{IsHeadOf}
-use Rattle.mr_model.specs.declared.message.Told.{Told}
+use Rattle.std.proofs.Common.{◌≡◌, [], ◌∷◌, ◌++◌, subst}
+use Rattle.std.specs.Prelude.{IfOk}
 use Rattle.mr_model.specs.Deeds.{Received}
-use Rattle.mr_upcall.specs.declared.upcall.Upcall.{Upcall}
-use Rattle.mr_router.specs.Deeds.{deeds, told_by}
-use Rattle.mr_router.specs.Histories.{Makes}
-use Rattle.mr_model.specs.declared.entry.Entry.{Entry}
-use Rattle.mr_model.specs.declared.entry.Entry.TheVariants.{Call, Recv, Tick}
-use Rattle.mr_authors.specs.Authors.{daemon_author}
-use Rattle.mr_router.proofs.Deeding.{daemon_deeds, daemon_idle, some_left}
+use Rattle.mr_router.specs.Callers.{DaemonValue}
+use Rattle.mr_router.specs.Deeds.{deeds}
 use Rattle.mr_router.proofs.bound.BoundCaller.recv.Goals as goal
 
-pub returns-in-Ok-None-clause-ok : goal.returns-in-Ok-None-clause-ok
-returns-in-Ok-None-clause-ok g c =
-    let e = Recv c.args.self.now.daemon.daemon None in
-    daemon_deeds g.C.RunName.limits c.args.self.now.daemon c.recv.new.self e c.recv.ensures.daemon c.facts.ensures (subst (λ (o : Option Upcall). Makes g.C.RunName.limits (daemon_author c.args.self.now.daemon.daemon.0) c.args.self.now.daemon.seen c.recv.new.self.seen (Recv c.args.self.now.daemon.daemon (option_map (λ u. u.id) o))) c.in-Ok-None.field-0-is c.in-Ok-None.ensures.entry)
-
-pub returns-in-Ok-None-clause-surely : goal.returns-in-Ok-None-clause-surely
-returns-in-Ok-None-clause-surely g c =
-    let e = Recv c.args.self.now.daemon.daemon None in
-    let d = c.args.self.now.daemon in
-    λ none. absurd (some_left g.C.RunName.limits d.daemon (daemon_author d.daemon.0) d.seen c.recv.new.self.seen e refl (subst (λ (o : Option Upcall). Makes g.C.RunName.limits (daemon_author c.args.self.now.daemon.daemon.0) c.args.self.now.daemon.seen c.recv.new.self.seen (Recv c.args.self.now.daemon.daemon (option_map (λ u. u.id) o))) c.in-Ok-None.field-0-is c.in-Ok-None.ensures.entry) none)
-
-pub returns-in-Ok-Some-clause-ok : goal.returns-in-Ok-Some-clause-ok
-returns-in-Ok-Some-clause-ok g c =
-    let u = c.in-Ok-Some.upcall in
-    let old = c.args.self.now.daemon in
-    let new = c.recv.new.self in
-    let e = Recv c.args.self.now.daemon.daemon (Some u.id) in
-    let head : IsHeadOf new.seen u.id.lane u.id.index u.head = subst (λ (o : Option Upcall). IfSome o (λ u. IsHeadOf new.seen u.id.lane u.id.index u.head)) c.in-Ok-Some.field-0-is c.in-Ok-Some.ensures.head in
-    daemon_deeds g.C.RunName.limits old new e c.recv.ensures.daemon c.facts.ensures (subst (λ (o : Option Upcall). Makes g.C.RunName.limits (daemon_author c.args.self.now.daemon.daemon.0) c.args.self.now.daemon.seen c.recv.new.self.seen (Recv c.args.self.now.daemon.daemon (option_map (λ u. u.id) o))) c.in-Ok-Some.field-0-is c.in-Ok-Some.ensures.entry)
-    ∙ ap (λ (t : Told). deeds old ++ Received (Some t) ∷ []) (ap (told_by u.id) head.known)
-
-pub returns-in-Ok-Some-clause-surely : goal.returns-in-Ok-Some-clause-surely
-returns-in-Ok-Some-clause-surely g c =
-    let e = Recv c.args.self.now.daemon.daemon (Some c.in-Ok-Some.upcall.id) in
-    let d = c.args.self.now.daemon in
-    λ none. absurd (some_left g.C.RunName.limits d.daemon (daemon_author d.daemon.0) d.seen c.recv.new.self.seen e refl (subst (λ (o : Option Upcall). Makes g.C.RunName.limits (daemon_author c.args.self.now.daemon.daemon.0) c.args.self.now.daemon.seen c.recv.new.self.seen (Recv c.args.self.now.daemon.daemon (option_map (λ u. u.id) o))) c.in-Ok-Some.field-0-is c.in-Ok-Some.ensures.entry) none)
-
-pub returns-in-Err-clause-err : goal.returns-in-Err-clause-err
-returns-in-Err-clause-err g c =
-    daemon_idle g.C.RunName.limits c.args.self.now.daemon c.recv.new.self c.recv.ensures.daemon c.facts.ensures c.in-Err.ensures.goes_on
+pub returns-clause-ok : goal.returns-clause-ok
+returns-clause-ok g c = subst (λ (v : DaemonValue). IfOk c.recv.result (λ told. deeds c.recv.new.daemon ≡ deeds v ++ Received told ∷ [])) c.self.view_is c.recv.ensures.ok

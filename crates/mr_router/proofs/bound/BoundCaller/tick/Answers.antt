@@ -1,22 +1,9 @@
-use Rattle.std.proofs.Common.{◌≡◌, ◌∙◌, Some, None, map, option_map, refl, ap}
-use Rattle.mr_kernel.specs.Flows.{id_of, slow_flow}
-use Rattle.mr_model.specs.declared.entry.Entry.{Entry}
-use Rattle.mr_model.specs.declared.entry.Entry.TheVariants.{Call, Recv, Tick}
-use Rattle.mr_authors.specs.Authors.{daemon_author}
-use Rattle.mr_router.proofs.Deeding.{daemon_deeds, daemon_idle, some_left}
+use Rattle.std.proofs.Common.{◌≡◌, [], ◌∷◌, ◌++◌, subst}
+use Rattle.std.specs.Prelude.{IfOk}
+use Rattle.mr_model.specs.Deeds.{Ticked}
+use Rattle.mr_router.specs.Callers.{DaemonValue}
+use Rattle.mr_router.specs.Deeds.{deeds}
 use Rattle.mr_router.proofs.bound.BoundCaller.tick.Goals as goal
 
-pub returns-in-Ok-clause-ok : goal.returns-in-Ok-clause-ok
-returns-in-Ok-clause-ok g c =
-    let e = Tick c.args.self.now.daemon.daemon c.args.ms in
-    daemon_deeds g.C.RunName.limits c.args.self.now.daemon c.tick.new.self e c.tick.ensures.daemon c.facts.ensures c.in-Ok.ensures.entry
-
-pub returns-in-Ok-clause-surely : goal.returns-in-Ok-clause-surely
-returns-in-Ok-clause-surely g c =
-    let e = Tick c.args.self.now.daemon.daemon c.args.ms in
-    let d = c.args.self.now.daemon in
-    λ none. absurd (some_left g.C.RunName.limits d.daemon (daemon_author d.daemon.0) d.seen c.tick.new.self.seen e refl c.in-Ok.ensures.entry none)
-
-pub returns-in-Err-clause-err : goal.returns-in-Err-clause-err
-returns-in-Err-clause-err g c =
-    daemon_idle g.C.RunName.limits c.args.self.now.daemon c.tick.new.self c.tick.ensures.daemon c.facts.ensures c.in-Err.ensures.goes_on
+pub returns-clause-ok : goal.returns-clause-ok
+returns-clause-ok g c = subst (λ (v : DaemonValue). IfOk c.tick.result (λ _. deeds c.tick.new.daemon ≡ deeds v ++ Ticked c.args.ms ∷ [])) c.self.view_is c.tick.ensures.ok
