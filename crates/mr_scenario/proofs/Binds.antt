@@ -16,6 +16,11 @@ pub ok_bad : {A : Type 0} (o : Option A) (m : Mistake) (P : A → Type 0) → If
 ok_bad None m P f = tt
 ok_bad (Some x) m P f = f
 
+-- the value in front, which holds this and is there, and then the value behind
+pub ok_at : {A B : Type 0} (r : Result A Mistake) (f : A → Result B Mistake) (P : A → Type 0) (Q : B → Type 0) → IfOk r P → ((x : A) → r ≡ Ok x → P x → IfOk (f x) Q) → IfOk (r >>= f) Q
+ok_at (Ok x) f P Q a g = g x refl a
+ok_at (Err e) f P Q a g = tt
+
 -- what holds of all that a line may leave holds of what it left
 pub after_step : {A B : Type 0} (r : Result A Stop) (done : A) (new : B) (value : Result B Mistake) (P : B → Type 0) → r ≡ Ok done → Steps r new value → IfOk value P → P new
 after_step (Ok x) done new value P is steps f = IfOk-at_ok P steps f

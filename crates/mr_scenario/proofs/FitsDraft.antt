@@ -18,18 +18,20 @@ use Rattle.mr_scenario.specs.declared.scenario.ScriptLine.{ScriptLine}
 use Rattle.mr_scenario.specs.declared.stop.Kind.TheVariants as kind
 use Rattle.mr_scenario.specs.declared.stop.Mistake.{Mistake}
 use Rattle.mr_scenario.specs.Counts.{Word, none_of, one_of, two_of, four_of, two_led}
-use Rattle.mr_scenario.specs.Fits.{Fits, IsItem, IsAsked, IsNamed, packets_in, packets_of}
+use Rattle.mr_scenario.specs.Fits.{Fits, IsDriven, IsItem, IsAsked, IsNamed, NeedsNoMachine, SuitsDaemon, packets_in, packets_of}
 use Rattle.mr_scenario.specs.Forms.{number_in, address_word, is_taken, device_from, device_of, hex_word}
 use Rattle.mr_scenario.specs.HeadLines.{header_line, limit, entries_limit, unresolved_limit, control_limit, limit_line, lanes_line, with_device, device_line, with_daemon, daemon_line, files_from, smc_line}
 use Rattle.mr_scenario.specs.Kinds.{in_line, bad, or_bad}
 use Rattle.mr_scenario.specs.Laws.{SpelledFits}
-use Rattle.mr_scenario.specs.PhaseLines.{lanes_of, phases_so_far, with_phase, phase_line, device_word, packet_item, trace_item, lane_line, daemon_word, who_of, script_line}
+use Rattle.mr_scenario.specs.PhaseLines.{lanes_of, phases_so_far, with_phase, phase_line, device_word, packet_item, trace_item, lane_line, daemon_word, is_smc_at, who_of, script_line}
 use Rattle.mr_scenario.specs.Requests.{script_of}
 use Rattle.mr_scenario.specs.Spelled.{head_line, phase_part, line_in, line_of, next_line, at_line, draft_from, empty_draft, limits_of, whole}
+use Rattle.mr_words.specs.Binds.{◌>>=◌}
 use Rattle.mr_words.specs.Names.{is_device_name, is_file}
 use Rattle.mr_words.specs.Numbers.{is_numeral, digit_on, number_of}
 use Rattle.mr_words.specs.Words.{lines_of, without_return, words_of}
-use Rattle.mr_scenario.proofs.Binds.{wanted, ok_bad}
+use Rattle.mr_scenario.proofs.Binds.{wanted, ok_bad, ok_at}
+use Rattle.mr_scenario.proofs.Suiting.{script_suits}
 use Rattle.mr_words.proofs.Binds.{ok_then, then_ok, ok_if, some_if, unwrapped}
 use Rattle.mr_scenario.proofs.Each.{all_weaker, all_push, all_front, all_last}
 
@@ -38,10 +40,11 @@ pub record IsWithin (low high n : ℕ) : Type 0 where
   least : low ≤ n
   most : n ≤ high
 
--- The phase has items of so many lanes and devices, and its lines are of so many daemons.
-pub record IsFair (lanes devices daemons : ℕ) (p : Phase) : Type 0 where
+-- The phase has items of so many lanes and devices, and its lines are of these daemons, and suit them.
+pub record IsFair (lanes devices : ℕ) (daemons : List DaemonKind) (p : Phase) : Type 0 where
   items : AllByRecursion (IsItem lanes devices) p.items
-  script : AllByRecursion (IsAsked daemons) p.script
+  script : AllByRecursion (IsAsked (length daemons)) p.script
+  machine_lines : AllByRecursion (SuitsDaemon daemons) p.script
 
 -- what head lines say is within the machine's limits
 pub record IsHeaded (d : Draft) : Type 0 where
@@ -52,12 +55,13 @@ pub record IsHeaded (d : Draft) : Type 0 where
   pub devices : length d.devices ≤ 64
   pub names : AllByRecursion IsNamed d.devices
   pub daemons : length d.daemons ≤ 8
+  pub confs : AllByRecursion IsDriven d.daemons
 
 abbrev packets_at : Phase → ℕ
 packets_at p = sum_by (λ i. packets_in i.given) p.items
 
 abbrev pub AreFair : Draft → List Phase → Type 0
-AreFair d ps = AllByRecursion (IsFair (lanes_of d) (length d.devices) (length d.daemons)) ps
+AreFair d ps = AllByRecursion (IsFair (lanes_of d) (length d.devices) d.daemons) ps
 
 -- The draft keeps within its limits.
 pub record Keeps (d : Draft) : Type 0 where
@@ -93,13 +97,13 @@ abbrev moved : Draft → ℕ → Phase → Draft
 moved d sent q = record d { sent = sent; current = Some q }
 
 moved_kept : (d : Draft) (p q : Phase) (sent : ℕ) → Keeps d → d.current ≡ Some p → packets_at q + d.sent ≡ packets_at p + sent → sent ≤ 1048576 →
-    (IsFair (lanes_of d) (length d.devices) (length d.daemons) p → IsFair (lanes_of d) (length d.devices) (length d.daemons) q) → Keeps (moved d sent q)
+    (IsFair (lanes_of d) (length d.devices) d.daemons p → IsFair (lanes_of d) (length d.devices) d.daemons q) → Keeps (moved d sent q)
 moved_kept d p q sent k now more most becomes =
     let fair : AreFair d (d.phases ++ p ∷ []) = subst (λ (c : Option Phase). AreFair d (d.phases ++ option_to_list c)) now k.fair in
     let before : packets_of (d.phases ++ p ∷ []) ≡ d.sent = subst (λ (c : Option Phase). packets_of (d.phases ++ option_to_list c) ≡ d.sent) now k.sent in
     let phases : length (d.phases ++ p ∷ []) ≤ 1000 = subst (λ (c : Option Phase). length (d.phases ++ option_to_list c) ≤ 1000) now k.phases in
-    let front : AreFair d d.phases = all_front (IsFair (lanes_of d) (length d.devices) (length d.daemons)) d.phases p fair in
-    let last : IsFair (lanes_of d) (length d.devices) (length d.daemons) p = all_last (IsFair (lanes_of d) (length d.devices) (length d.daemons)) d.phases p fair in
+    let front : AreFair d d.phases = all_front (IsFair (lanes_of d) (length d.devices) d.daemons) d.phases p fair in
+    let last : IsFair (lanes_of d) (length d.devices) d.daemons p = all_last (IsFair (lanes_of d) (length d.devices) d.daemons) d.phases p fair in
     record {
       head = record {
         entries = k.head.entries;
@@ -109,12 +113,13 @@ moved_kept d p q sent k now more most becomes =
         devices = k.head.devices;
         names = k.head.names;
         daemons = k.head.daemons;
+        confs = k.head.confs;
       };
       first = λ e. absurd (cc e);
       sent = omega (arith, before, more, sum_by_push packets_at d.phases p, sum_by_push packets_at d.phases q);
       most_sent = most;
       phases = omega (arith, phases, length-append d.phases (p ∷ []), length-append d.phases (q ∷ []));
-      fair = all_push (IsFair (lanes_of d) (length d.devices) (length d.daemons)) d.phases q front (becomes last);
+      fair = all_push (IsFair (lanes_of d) (length d.devices) d.daemons) d.phases q front (becomes last);
     }
 
 -- The head says the same: nothing but the phases or the first line is another.
@@ -127,6 +132,7 @@ same_head d e h a b c f g i = record {
   devices = omega (arith, ap length g, h.devices);
   names = subst (AllByRecursion IsNamed) (sym g) h.names;
   daemons = omega (arith, ap length i, h.daemons);
+  confs = subst (AllByRecursion IsDriven) (sym i) h.confs;
 }
 
 header_keeps : (d : Draft) (ws : List Word) → Keeps d → Kept (header_line d ws)
@@ -180,21 +186,21 @@ entries_keep d w k now =
     let h = k.head in
     ok_then (limit d.entries 16384 w) _ (IsWithin 1 16384) Keeps (limit_within d.entries 16384 w) (λ n within.
     head_kept d (record d { entries = Some n }) k now refl refl refl
-    (record { entries = within; unresolved = h.unresolved; controls = h.controls; lanes = h.lanes; devices = h.devices; names = h.names; daemons = h.daemons }))
+    (record { entries = within; unresolved = h.unresolved; controls = h.controls; lanes = h.lanes; devices = h.devices; names = h.names; daemons = h.daemons; confs = h.confs }))
 
 unresolved_keep : (d : Draft) (w : Word) → Keeps d → d.current ≡ None → Kept (unresolved_limit d w)
 unresolved_keep d w k now =
     let h = k.head in
     ok_then (limit d.unresolved 64 w) _ (IsWithin 1 64) Keeps (limit_within d.unresolved 64 w) (λ n within.
     head_kept d (record d { unresolved = Some n }) k now refl refl refl
-    (record { entries = h.entries; unresolved = within; controls = h.controls; lanes = h.lanes; devices = h.devices; names = h.names; daemons = h.daemons }))
+    (record { entries = h.entries; unresolved = within; controls = h.controls; lanes = h.lanes; devices = h.devices; names = h.names; daemons = h.daemons; confs = h.confs }))
 
 controls_keep : (d : Draft) (w : Word) → Keeps d → d.current ≡ None → Kept (control_limit d w)
 controls_keep d w k now =
     let h = k.head in
     ok_then (limit d.controls 1048576 w) _ (IsWithin 1 1048576) Keeps (limit_within d.controls 1048576 w) (λ n within.
     head_kept d (record d { controls = Some n }) k now refl refl refl
-    (record { entries = h.entries; unresolved = h.unresolved; controls = within; lanes = h.lanes; devices = h.devices; names = h.names; daemons = h.daemons }))
+    (record { entries = h.entries; unresolved = h.unresolved; controls = within; lanes = h.lanes; devices = h.devices; names = h.names; daemons = h.daemons; confs = h.confs }))
 
 limit_keeps : (d : Draft) (ws : List Word) → Keeps d → d.current ≡ None → Kept (limit_line d ws)
 limit_keeps d ws k now =
@@ -210,7 +216,7 @@ lanes_keep d ws k now =
     wanted (is_none d.lanes) (in_line kind.Word) _ Keeps (λ _.
     ok_then (or_bad (number_of 16 w) (bad 1 w (kind.Number 0 16))) _ (λ n. n ≤ 16) Keeps (ok_bad (number_of 16 w) (bad 1 w (kind.Number 0 16)) (λ n. n ≤ 16) (number_least 16 w)) (λ n within.
     head_kept d (record d { lanes = Some n }) k now refl refl refl
-    (record { entries = h.entries; unresolved = h.unresolved; controls = h.controls; lanes = within; devices = h.devices; names = h.names; daemons = h.daemons }))))
+    (record { entries = h.entries; unresolved = h.unresolved; controls = h.controls; lanes = within; devices = h.devices; names = h.names; daemons = h.daemons; confs = h.confs }))))
 
 device_keeps : (d : Draft) (ws : List Word) → Keeps d → d.current ≡ None → Kept (device_line d ws)
 device_keeps d ws k now =
@@ -222,31 +228,37 @@ device_keeps d ws k now =
     let more : length (with_device d w.0 a).devices ≤ 64 =
     omega (arith, ltb-true (length d.devices) 64 less, length-append d.devices (record { name = w.0; addr = record { 0 = a } } ∷ [])) in
     head_kept d (with_device d w.0 a) k now refl refl refl
-    (record { entries = h.entries; unresolved = h.unresolved; controls = h.controls; lanes = h.lanes; devices = more; names = names_more w.0 a named; daemons = h.daemons })))))
+    (record { entries = h.entries; unresolved = h.unresolved; controls = h.controls; lanes = h.lanes; devices = more; names = names_more w.0 a named; daemons = h.daemons; confs = h.confs })))))
   where
     names_more : (w : Word) (a : ℕ) → (is_device_name w && not (is_taken d.devices w)) ≡ true → AllByRecursion IsNamed (with_device d w a).devices
     names_more w a e =
         all_push IsNamed d.devices (record { name = w; addr = record { 0 = a } }) k.head.names
         (and_parts (is_device_name w) (not (is_taken d.devices w)) e).0
 
-with_daemon_keeps : (d : Draft) (one : DaemonKind) → Keeps d → d.current ≡ None → Kept (with_daemon d one)
-with_daemon_keeps d one k now =
+with_daemon_keeps : (d : Draft) (one : DaemonKind) → IsDriven one → Keeps d → d.current ≡ None → Kept (with_daemon d one)
+with_daemon_keeps d one driven k now =
     let h = k.head in
     wanted (nat_lt (length d.daemons) 8) (in_line kind.Limit) _ Keeps (λ less.
     let more : length (d.daemons ++ one ∷ []) ≤ 8 = omega (arith, ltb-true (length d.daemons) 8 less, length-append d.daemons (one ∷ [])) in
     head_kept d (record d { daemons = d.daemons ++ one ∷ [] }) k now refl refl refl
-    (record { entries = h.entries; unresolved = h.unresolved; controls = h.controls; lanes = h.lanes; devices = h.devices; names = h.names; daemons = more }))
+    (record { entries = h.entries; unresolved = h.unresolved; controls = h.controls; lanes = h.lanes; devices = h.devices; names = h.names; daemons = more; confs = all_push IsDriven d.daemons one h.confs driven }))
 
 daemon_keeps : (d : Draft) (ws : List Word) → Keeps d → d.current ≡ None → Kept (daemon_line d ws)
 daemon_keeps d ws k now =
     then_ok (or_bad (one_of ws) (in_line kind.Word)) _ Keeps (λ w.
-    ok_if (bytes_eq w (codes "admin")) _ _ Keeps (with_daemon_keeps d Admin k now)
-    (ok_if (bytes_eq w (codes "plain")) (with_daemon d Plain) (Err (in_line kind.Word)) Keeps (with_daemon_keeps d Plain k now) tt))
+    ok_if (bytes_eq w (codes "admin")) _ _ Keeps (with_daemon_keeps d Admin tt k now)
+    (ok_if (bytes_eq w (codes "plain")) (with_daemon d Plain) (Err (in_line kind.Word)) Keeps (with_daemon_keeps d Plain tt k now) tt))
+
+are_files : (files ws : List Word) → AllByRecursion (λ file. is_file file ≡ true) files → IfOk (files_from files ws) (λ all. AllByRecursion (λ file. is_file file ≡ true) all)
+are_files files [] a = a
+are_files files (w ∷ ws) a =
+    wanted (is_file w && nat_lt (length files) 8) (bad (length files + 1) w kind.File) _ (λ all. AllByRecursion (λ file. is_file file ≡ true) all) (λ e.
+    are_files (files ++ w ∷ []) ws (all_push (λ file. is_file file ≡ true) files w a (and_parts (is_file w) (nat_lt (length files) 8) e).0))
 
 smc_keeps : (d : Draft) (ws : List Word) → Keeps d → d.current ≡ None → Kept (smc_line d ws)
 smc_keeps d ws k now =
     wanted (nat_lt 0 (length ws)) (in_line kind.Word) _ Keeps (λ _.
-    then_ok (files_from [] ws) _ Keeps (λ files. with_daemon_keeps d (Smc files) k now))
+    ok_then (files_from [] ws) _ (λ all. AllByRecursion (λ file. is_file file ≡ true) all) Keeps (are_files [] ws tt) (λ files a. with_daemon_keeps d (Smc files) a k now))
 
 phase_keeps : (n : ℕ) (d : Draft) (ws : List Word) → Keeps d → Kept (phase_line n d ws)
 phase_keeps n d ws k =
@@ -259,7 +271,7 @@ phase_keeps n d ws k =
       sent = omega (arith, k.sent, sum_by_push packets_at (phases_so_far d) fresh);
       most_sent = k.most_sent;
       phases = omega (arith, ltb-true (length (phases_so_far d)) 1000 less, length-append (phases_so_far d) (fresh ∷ []));
-      fair = all_push (IsFair (lanes_of d) (length d.devices) (length d.daemons)) (phases_so_far d) fresh k.fair (record { items = tt; script = tt });
+      fair = all_push (IsFair (lanes_of d) (length d.devices) d.daemons) (phases_so_far d) fresh k.fair (record { items = tt; script = tt; machine_lines = tt });
     }))
 
 head_keeps : (n : ℕ) (d : Draft) (w : Word) (ws : List Word) → Keeps d → d.current ≡ None → Kept (head_line n d w ws)
@@ -279,9 +291,9 @@ device_ok d w = ok_bad (device_of w d.devices) (bad 3 w kind.Device) (IsWithin 1
     by_device (Some i) f = record { least = f.0; most = omega (arith, f.1) }
 
 -- one more item of the phase that is read
-item_fair : (d : Draft) (p : Phase) (i : Item) → IsItem (lanes_of d) (length d.devices) i → IsFair (lanes_of d) (length d.devices) (length d.daemons) p →
-    IsFair (lanes_of d) (length d.devices) (length d.daemons) (record p { items = p.items ++ i ∷ [] })
-item_fair d p i is f = record { items = all_push (IsItem (lanes_of d) (length d.devices)) p.items i f.items is; script = f.script }
+item_fair : (d : Draft) (p : Phase) (i : Item) → IsItem (lanes_of d) (length d.devices) i → IsFair (lanes_of d) (length d.devices) d.daemons p →
+    IsFair (lanes_of d) (length d.devices) d.daemons (record p { items = p.items ++ i ∷ [] })
+item_fair d p i is f = record { items = all_push (IsItem (lanes_of d) (length d.devices)) p.items i f.items is; script = f.script; machine_lines = f.machine_lines }
 
 packet_keeps : (n : ℕ) (d : Draft) (p : Phase) (lane : ℕ) (dev digits : Word) → Keeps d → d.current ≡ Some p → IsWithin 1 (lanes_of d) lane → Kept (packet_item n d p lane dev digits)
 packet_keeps n d p lane dev digits k now of_lane =
@@ -316,12 +328,17 @@ lane_keeps n d p ws k now =
 script_keeps : (n : ℕ) (d : Draft) (p : Phase) (ws : List Word) → Keeps d → d.current ≡ Some p → Kept (script_line n d p ws)
 script_keeps n d p ws k now =
     then_ok (or_bad (two_led ws) (in_line kind.Word)) _ Keeps (λ w.
-    then_ok (script_of w.1 (who_of d w.0) w.2) _ Keeps (λ s.
-    ok_then (daemon_word d w.0) _ (IsWithin 1 (length d.daemons)) Keeps
-    (ok_bad (number_in 1 (length d.daemons) w.0) (bad 1 w.0 kind.Daemon) (IsWithin 1 (length d.daemons)) (number_within 1 (length d.daemons) w.0)) (λ i of_daemon.
+    ok_then (script_of w.1 (who_of d w.0) w.2) _ (λ s. who_of d w.0 ≡ Ok false → NeedsNoMachine s) Keeps (script_suits w.1 (who_of d w.0) w.2) (λ s suits.
+    ok_at (daemon_word d w.0) _ (IsWithin 1 (length d.daemons)) Keeps
+    (ok_bad (number_in 1 (length d.daemons) w.0) (bad 1 w.0 kind.Daemon) (IsWithin 1 (length d.daemons)) (number_within 1 (length d.daemons) w.0)) (λ i at of_daemon.
     let l : ScriptLine = record { line = n; daemon = record { 0 = i }; script = s } in
+    let who : who_of d w.0 ≡ Ok (is_smc_at d.daemons i) = ap (λ r. r >>= λ j. Ok (is_smc_at d.daemons j)) at in
     moved_kept d p (record p { script = p.script ++ l ∷ [] }) d.sent k now refl k.most_sent
-    (λ f. record { items = f.items; script = all_push (IsAsked (length d.daemons)) p.script l f.script (record { least = of_daemon.least; most = of_daemon.most }) }))))
+    (λ f. record {
+      items = f.items;
+      script = all_push (IsAsked (length d.daemons)) p.script l f.script (record { least = of_daemon.least; most = of_daemon.most });
+      machine_lines = all_push (SuitsDaemon d.daemons) p.script l f.machine_lines (λ none. suits (who ∙ ap Ok none));
+    }))))
 
 part_keeps : (n : ℕ) (d : Draft) (p : Phase) (w : Word) (ws : List Word) → Keeps d → d.current ≡ Some p → Kept (phase_part n d p w ws)
 part_keeps n d p w ws k now =
@@ -377,17 +394,19 @@ whole_fits d k = ok_if d.begun (Ok made) _ Fits fits tt
       most_lanes = unwrapped d.lanes 1 (λ n. n ≤ 16) k.head.lanes (omega arith);
       admins = refl;
       most_daemons = k.head.daemons;
+      confs = k.head.confs;
       devices = refl;
       most_devices = k.head.devices;
       names = k.head.names;
-      items = all_weaker (IsFair (lanes_of d) (length d.devices) (length d.daemons)) (λ p. AllByRecursion (IsItem (lanes_of d) (length d.devices)) p.items) (λ p f. f.items) (phases_so_far d) k.fair;
-      script = all_weaker (IsFair (lanes_of d) (length d.devices) (length d.daemons)) (λ p. AllByRecursion (IsAsked (length d.daemons)) p.script) (λ p f. f.script) (phases_so_far d) k.fair;
+      items = all_weaker (IsFair (lanes_of d) (length d.devices) d.daemons) (λ p. AllByRecursion (IsItem (lanes_of d) (length d.devices)) p.items) (λ p f. f.items) (phases_so_far d) k.fair;
+      script = all_weaker (IsFair (lanes_of d) (length d.devices) d.daemons) (λ p. AllByRecursion (IsAsked (length d.daemons)) p.script) (λ p f. f.script) (phases_so_far d) k.fair;
+      machine_lines = all_weaker (IsFair (lanes_of d) (length d.devices) d.daemons) (λ p. AllByRecursion (SuitsDaemon d.daemons) p.script) (λ p f. f.machine_lines) (phases_so_far d) k.fair;
       most_packets = omega (arith, k.sent, k.most_sent);
     }
 
 pub empty_keeps : Keeps empty_draft
 empty_keeps = record {
-  head = record { entries = tt; unresolved = tt; controls = tt; lanes = tt; devices = omega arith; names = tt; daemons = omega arith };
+  head = record { entries = tt; unresolved = tt; controls = tt; lanes = tt; devices = omega arith; names = tt; daemons = omega arith; confs = tt };
   first = λ _. refl;
   sent = refl;
   most_sent = omega arith;

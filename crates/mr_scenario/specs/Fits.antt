@@ -1,13 +1,18 @@
 -- What a scenario that was read keeps: it fits its own limits, and those of the machine.
-use Rattle.std.specs.Prelude.{◌≡◌, ◌≤◌, ℕ, true, List, length, map, replicate, sum_by}
+use Rattle.std.specs.Prelude.{◌≡◌, ◌≤◌, ℕ, true, false, List, length, map, replicate, sum_by}
 use Rattle.std.specs.List.{AllByRecursion}
+use Rattle.mr_scenario.specs.PhaseLines.{is_smc_at}
 use Rattle.mr_scenario.specs.Spelled.{is_admin_kind, address_only}
+use Rattle.mr_scenario.specs.declared.scenario.DaemonKind.{DaemonKind}
+use Rattle.mr_scenario.specs.declared.scenario.DaemonKind.TheVariants.{Plain, Admin, Smc}
 use Rattle.mr_scenario.specs.declared.scenario.Given.{Given}
 use Rattle.mr_scenario.specs.declared.scenario.Given.TheVariants.{Bytes, Trace}
 use Rattle.mr_scenario.specs.declared.scenario.Item.{Item}
 use Rattle.mr_scenario.specs.declared.scenario.Named.{Named}
 use Rattle.mr_scenario.specs.declared.scenario.Phase.{Phase}
 use Rattle.mr_scenario.specs.declared.scenario.Scenario.{Scenario}
+use Rattle.mr_scenario.specs.declared.scenario.Script.{Script}
+use Rattle.mr_scenario.specs.declared.scenario.Script.TheVariants.{Words, Start, Poll}
 use Rattle.mr_scenario.specs.declared.scenario.ScriptLine.{ScriptLine}
 use Rattle.mr_words.specs.Names.{is_device_name, is_file}
 
@@ -24,10 +29,27 @@ pub record IsItem (lanes devices : ℕ) (i : Item) : Type 0 where
   pub most_device : i.dev ≤ devices
   pub file : IsFileGiven i.given
 
+-- A configuration is named by a word for files.
+abbrev pub IsDriven : DaemonKind → Type 0
+IsDriven (Smc files) = AllByRecursion (λ file. is_file file ≡ true) files
+IsDriven Plain = Unit {0}
+IsDriven Admin = Unit {0}
+
 -- a line of one of so many daemons
 pub record IsAsked (daemons : ℕ) (l : ScriptLine) : Type 0 where
   pub least : 1 ≤ l.daemon.0
   pub most : l.daemon.0 ≤ daemons
+
+-- a line that asks nothing of a routing machine
+abbrev pub NeedsNoMachine : Script → Type 0
+NeedsNoMachine Start = ⊥
+NeedsNoMachine (Poll n) = ⊥
+NeedsNoMachine (Words text) = ⊥
+NeedsNoMachine _ = Unit {0}
+
+-- A line that asks something of a routing machine is of a daemon that has one.
+abbrev pub SuitsDaemon : List DaemonKind → ScriptLine → Type 0
+SuitsDaemon daemons l = is_smc_at daemons l.daemon.0 ≡ false → NeedsNoMachine l.script
 
 -- A device has a name of 1 to 15 bytes.
 abbrev pub IsNamed : Named → Type 0
@@ -54,9 +76,11 @@ pub record Fits (s : Scenario) : Type 0 where
   pub most_lanes : s.lanes ≤ 16
   pub admins : s.limits.admins ≡ map is_admin_kind s.daemons
   pub most_daemons : length s.daemons ≤ 8
+  pub confs : AllByRecursion IsDriven s.daemons
   pub devices : s.limits.devices ≡ map address_only s.devices
   pub most_devices : length s.devices ≤ 64
   pub names : AllByRecursion IsNamed s.devices
   pub items : AllByRecursion (λ p. AllByRecursion (IsItem s.lanes (length s.devices)) p.items) s.phases
   pub script : AllByRecursion (λ p. AllByRecursion (IsAsked (length s.daemons)) p.script) s.phases
+  pub machine_lines : AllByRecursion (λ p. AllByRecursion (SuitsDaemon s.daemons) p.script) s.phases
   pub most_packets : packets_of s.phases ≤ 1048576
