@@ -5,5 +5,7 @@
 mod asking;
 mod lines;
 mod receiving;
+#[cfg(test)]
+mod tests;
 
 pub use lines::drive;
