@@ -1,37 +1,40 @@
--- What the bytes of a file load to, with the traces that its lines name, is what the file loads to over the files of a store.
-use Rattle.std.proofs.Common.{◌≡◌, ◌≤◌, ℕ, ◌+◌, ◌*◌, ◌<◌, ◌&&◌, ◌||◌, Bool, true, false, not, Option, Some, None, Result, Ok, Err, List, [], ◌∷◌, ◌++◌, length, map, take, drop, filter, bytes_eq, is_some, nat_lt, nat_le, zero, suc, refl, sym, ap, ◌∙◌, subst, arith}
+-- What the bytes of a file load to, with the files that they name, is what the file loads to over the files of a store.
+use Rattle.std.proofs.Common.{◌≡◌, ◌≤◌, ℕ, ◌+◌, ◌*◌, ◌&&◌, ◌||◌, Bool, true, false, not, Option, Some, None, Result, Ok, Err, List, [], ◌∷◌, ◌++◌, length, map, take, drop, bytes_eq, is_some, nat_lt, nat_le, zero, suc, refl, sym, ap, ◌∙◌, subst, arith}
 use Rattle.std.proofs.lemmas.Bool.{and_parts}
 use Rattle.std.proofs.lemmas.Bool.Decides.{nat_tests}
 use Rattle.std.proofs.lemmas.List.{append_assoc, append-nil, length-map, map-append}
 use Rattle.std.proofs.lemmas.List.Elements.{Contains-append_left, Contains-append_right}
-use Rattle.std.specs.List.{AllByRecursion, Contains, list_any, sum_by}
+use Rattle.std.specs.List.{AllByRecursion, Contains, list_any}
 use Rattle.std.specs.Map.{lookup}
 use Rattle.std.specs.Prelude.{if◌then◌else◌, IfSome}
 use Rattle.mr_base.specs.Outside.{Files, HasFile}
 use Rattle.mr_base.specs.declared.store_call.StoreCall.{StoreCall}
 use Rattle.mr_load.specs.Faults.{HasRead, cuts, fails, read_of, reads_of}
-use Rattle.mr_load.specs.Items.{Content, all_items, contents_in, contents_of, contents_read, contents_there}
-use Rattle.mr_load.specs.Kept.{AreBytesOf, Kept, contents_found, contents_kept}
+use Rattle.mr_load.specs.Items.{all_items, contents_in, contents_of, contents_read, contents_there}
+use Rattle.mr_load.specs.Kept.{AreBytesOf, contents_found, contents_kept, files_kept}
 use Rattle.mr_load.specs.Loading.{items_in}
-use Rattle.mr_load.specs.Loads.{Gives, IsGiven, IsLoaded, LoadsFrom, LoadsTo}
+use Rattle.mr_load.specs.Loads.{Gives, IsGiven, LoadsFrom, LoadsTo}
 use Rattle.mr_load.specs.Naming.{Naming, named_in}
-use Rattle.mr_load.specs.Reading.{AllThere, Facts, IsKept, IsRefused, IsStop, Progress, ReadsAll, Stops, names_in, read_if}
-use Rattle.mr_load.specs.Refusals.{accepted, accepted_trace, after_bytes, after_trace, after_traces, are_few, before_traces, but, files_read, if_built, if_few, if_ok, if_there, loaded, scenario_of, traces_read, with_trace, with_traces}
+use Rattle.mr_load.specs.Reading.{AllThere, Facts, IsFound, IsKept, IsRefused, ReadsAll, Stops, names_in, read_if}
+use Rattle.mr_load.specs.Refusals.{accepted, accepted_trace, after_bytes, after_file, after_files, after_lines, are_few, before_traces, but, files_read, further_read, if_few, if_ok, if_there, loaded, scenario_of, with_files, with_trace}
 use Rattle.mr_load.specs.Told.{IsTold}
-use Rattle.mr_load.specs.Unbuilt.{first_unbuilt}
 use Rattle.mr_load.specs.declared.loading.Loaded.{Loaded}
+use Rattle.mr_load.specs.declared.naming.Use.{Use}
+use Rattle.mr_load.specs.declared.reading.Reading.{Reading}
 use Rattle.mr_load.specs.declared.status.Status.{Status}
 use Rattle.mr_load.specs.declared.status.Status.TheVariants as status
 use Rattle.mr_load.specs.declared.totals.Totals.{Totals}
-use Rattle.mr_load.proofs.Namings.{Distinct, IsNamed, all_named, any_push, eq_self, items_there_in, named_distinct, named_items, named_sum, neither, same_name, sum_one}
-use Rattle.mr_load.proofs.ReadOn.{after_is, all_first, all_last, but_push, reads_push, told_push}
-use Rattle.mr_load.proofs.Rows.{all_append, all_weaker}
-use Rattle.mr_load.proofs.Transport.{given_loaded, in_all, same_all}
+use Rattle.mr_load.proofs.Namings.{Distinct, IsNamed, IsServed, all_named, all_served, eq_self, has_use, is_conf, is_trace, items_there_in, named_distinct, named_items, named_sum, neither, same_name, sum_one}
+use Rattle.mr_load.proofs.ReadOn.{after_is, all_first, all_last, but_push, lines_after, reads_push, told_push}
+use Rattle.mr_load.proofs.Rows.{all_weaker}
+use Rattle.mr_load.proofs.Transport.{AreServed, given_loaded, in_all, same_all}
 use Rattle.mr_pcap.specs.Traces.{Capture, capture_of}
 use Rattle.mr_pcap.specs.declared.pcap_error.PcapError.{PcapError}
 use Rattle.mr_pcap.specs.declared.pcap_error.PcapError.TheVariants as pcap
-use Rattle.mr_scenario.specs.Fits.{Fits, packets_of}
+use Rattle.mr_scenario.specs.Fits.{Fits}
 use Rattle.mr_scenario.specs.Spelled.{spelled}
+use Rattle.mr_scenario.specs.declared.scenario.DaemonKind.{DaemonKind}
+use Rattle.mr_scenario.specs.declared.scenario.DaemonKind.TheVariants.{Plain, Admin, Smc}
 use Rattle.mr_scenario.specs.declared.scenario.Given.{Given}
 use Rattle.mr_scenario.specs.declared.scenario.Given.TheVariants.{Bytes, Trace}
 use Rattle.mr_scenario.specs.declared.scenario.Item.{Item}
@@ -41,6 +44,7 @@ use Rattle.mr_scenario.specs.declared.stop.ScenarioError.{ScenarioError}
 use Rattle.mr_scenario.specs.declared.stop.ScenarioError.TheVariants as error
 use Rattle.mr_words.specs.Binds.{◌>>=◌}
 use Rattle.mr_words.specs.Names.{is_file}
+use Rattle.mr_words.proofs.Binds.{bind_ok}
 
 -- a name of a file has a byte
 pub file_named : (w : List ℕ) → is_file w ≡ true → 1 ≤ length w
@@ -105,35 +109,53 @@ distinct_take seen zero ns d = tt
 distinct_take seen (suc i) [] d = tt
 distinct_take seen (suc i) (n ∷ ns) d = (d.0, distinct_take (seen ++ n.0 ∷ []) i ns d.1)
 
-distinct_read : (file : List ℕ) (ps : List Phase) (ns : List Naming) (i : ℕ) → ns ≡ named_in ps → Distinct (file ∷ []) (but file (names_in (take i ns)))
-distinct_read file ps ns i e =
-    distinct_but file [] (names_in (take i ns)) (distinct_take [] i ns (subst (λ (ms : List Naming). Distinct [] (names_in ms)) (sym e) (named_distinct ps)))
+distinct_read : (file : List ℕ) (s : Scenario) (ns : List Naming) (i : ℕ) → ns ≡ named_in s → Distinct (file ∷ []) (but file (names_in (take i ns)))
+distinct_read file s ns i e =
+    distinct_but file [] (names_in (take i ns)) (distinct_take [] i ns (subst (λ (ms : List Naming). Distinct [] (names_in ms)) (sym e) (named_distinct s)))
 
 -- what is kept is what the files have
 
-kept_by : (b : Bool) (files : Files) (name : List ℕ) (e : List ℕ × Capture) (es : Kept) → bytes_eq name e.0 ≡ b → IsKept files e
-    → (is_some (lookup (bytes_eq name) es) ≡ true → contents_found (lookup (bytes_eq name) es) ≡ contents_of files (Trace name))
-    → is_some (if b then Some e.1 else lookup (bytes_eq name) es) ≡ true → contents_found (if b then Some e.1 else lookup (bytes_eq name) es) ≡ contents_of files (Trace name)
-kept_by true files name e es same one more f = sym (ap (λ (n : List ℕ). contents_of files (Trace n)) (same_name name e.0 same) ∙ one)
-kept_by false files name e es same one more f = more f
+-- What is true of an entry by its name is true of the one that a name finds.
+kept_by : {V : Type 0} (P : List ℕ → Option V → Type 0) (b : Bool) (name : List ℕ) (e : List ℕ × V) (es : List (List ℕ × V)) → bytes_eq name e.0 ≡ b → P e.0 (Some e.1)
+    → (is_some (lookup (bytes_eq name) es) ≡ true → P name (lookup (bytes_eq name) es)) → is_some (if b then Some e.1 else lookup (bytes_eq name) es) ≡ true → P name (if b then Some e.1 else lookup (bytes_eq name) es)
+kept_by P true name e es same one more f = subst (λ (n : List ℕ). P n (Some e.1)) (sym (same_name name e.0 same)) one
+kept_by P false name e es same one more f = more f
 
-kept_same : (files : Files) (name : List ℕ) (kept : Kept) → AllByRecursion (IsKept files) kept → is_some (lookup (bytes_eq name) kept) ≡ true → contents_found (lookup (bytes_eq name) kept) ≡ contents_of files (Trace name)
-kept_same files name [] a f = absurd (cc)
-kept_same files name (e ∷ es) a f = kept_by (bytes_eq name e.0) files name e es refl a.0 (kept_same files name es a.1) f
+kept_found : {V : Type 0} (P : List ℕ → Option V → Type 0) (name : List ℕ) (es : List (List ℕ × V)) → AllByRecursion (λ e. P e.0 (Some e.1)) es → is_some (lookup (bytes_eq name) es) ≡ true → P name (lookup (bytes_eq name) es)
+kept_found P name [] a f = absurd (cc)
+kept_found P name (e ∷ es) a f = kept_by P (bytes_eq name e.0) name e es refl a.0 (kept_found P name es a.1) f
 
-found_by : (b : Bool) (file : List ℕ) (kept : Kept) (n : Naming) (ns : List Naming) → bytes_eq file n.0 ≡ b → is_some (lookup (bytes_eq n.0) kept) ≡ true
-    → (list_any (bytes_eq file) (names_in ns) ≡ true → is_some (lookup (bytes_eq file) kept) ≡ true) → (b || list_any (bytes_eq file) (names_in ns)) ≡ true → is_some (lookup (bytes_eq file) kept) ≡ true
-found_by true file kept n ns same one more f = subst (λ (x : List ℕ). is_some (lookup (bytes_eq x) kept) ≡ true) (sym (same_name file n.0 same)) one
-found_by false file kept n ns same one more f = more f
+-- What is true of each that has a use is true of a name that has it.
+use_by : (P : List ℕ → Type 0) (test : Use → Bool) (b c : Bool) (x : List ℕ) (n : Naming) (ns : List Naming) → bytes_eq x n.0 ≡ b → test n.1 ≡ c → (test n.1 ≡ true → P n.0) → (has_use test x ns ≡ true → P x)
+    → (b && c || has_use test x ns) ≡ true → P x
+use_by P test true true x n ns same used one more f = subst P (sym (same_name x n.0 same)) (one used)
+use_by P test true false x n ns same used one more f = more f
+use_by P test false c x n ns same used one more f = more f
 
-named_found : (file : List ℕ) (kept : Kept) (ns : List Naming) → AllByRecursion (λ n. is_some (lookup (bytes_eq n.0) kept) ≡ true) ns → list_any (bytes_eq file) (names_in ns) ≡ true → is_some (lookup (bytes_eq file) kept) ≡ true
-named_found file kept [] a e = absurd (cc)
-named_found file kept (n ∷ ns) a e = found_by (bytes_eq file n.0) file kept n ns refl a.0 (λ f. named_found file kept ns a.1 f) e
+used : (P : List ℕ → Type 0) (test : Use → Bool) (x : List ℕ) (ns : List Naming) → AllByRecursion (λ n. test n.1 ≡ true → P n.0) ns → has_use test x ns ≡ true → P x
+used P test x [] a f = absurd (cc)
+used P test x (n ∷ ns) a f = use_by P test (bytes_eq x n.0) (test n.1) x n ns refl refl a.0 (used P test x ns a.1) f
 
-given_same : (files : Files) (kept : Kept) (ns : List Naming) (g : Given) → AllByRecursion (IsKept files) kept → AllByRecursion (λ n. is_some (lookup (bytes_eq n.0) kept) ≡ true) ns → IsNamed ns g
-    → contents_kept kept g ≡ contents_of files g
-given_same files kept ns (Bytes bs) a f named = refl
-given_same files kept ns (Trace file) a f named = kept_same files file kept a (named_found file kept ns f named)
+given_same : (files : Files) (r : Reading) (ns : List Naming) (g : Given) → AllByRecursion (IsKept files) r.traces.entries → AllByRecursion (IsFound r) ns → IsNamed ns g → contents_kept r.traces.entries g ≡ contents_of files g
+given_same files r ns (Bytes bs) a f named = refl
+given_same files r ns (Trace file) a f named =
+    kept_found (λ (name : List ℕ) (o : Option Capture). contents_found o ≡ contents_of files (Trace name)) file r.traces.entries
+    (all_weaker (IsKept files) (λ (e : List ℕ × Capture). contents_in e.1 ≡ contents_of files (Trace e.0)) (λ e k. sym k) r.traces.entries a)
+    (used (λ (name : List ℕ). is_some (lookup (bytes_eq name) r.traces.entries) ≡ true) is_trace file ns
+    (all_weaker (IsFound r) (λ (n : Naming). is_trace n.1 ≡ true → is_some (lookup (bytes_eq n.0) r.traces.entries) ≡ true) (λ n k. k.trace) ns f) named)
+
+file_same : (files : Files) (r : Reading) (ns : List Naming) (file : List ℕ) → AllThere files r.confs.entries → AllByRecursion (IsFound r) ns → has_use is_conf file ns ≡ true → files_kept r.confs.entries file ≡ files file
+file_same files r ns file a f named =
+    kept_found (λ (name : List ℕ) (o : Option (List ℕ)). o ≡ files name) file r.confs.entries
+    (all_weaker (λ (e : List ℕ × List ℕ). files e.0 ≡ Some e.1) (λ (e : List ℕ × List ℕ). Some e.1 ≡ files e.0) (λ e k. sym k) r.confs.entries a)
+    (used (λ (name : List ℕ). is_some (lookup (bytes_eq name) r.confs.entries) ≡ true) is_conf file ns
+    (all_weaker (IsFound r) (λ (n : Naming). is_conf n.1 ≡ true → is_some (lookup (bytes_eq n.0) r.confs.entries) ≡ true) (λ n k. k.conf) ns f) named)
+
+daemon_same : (files : Files) (r : Reading) (ns : List Naming) (k : DaemonKind) → AllThere files r.confs.entries → AllByRecursion (IsFound r) ns → IsServed ns k → AreServed (files_kept r.confs.entries) files k
+daemon_same files r ns (Smc names) a f served =
+    all_weaker (λ (file : List ℕ). has_use is_conf file ns ≡ true) (λ (file : List ℕ). files_kept r.confs.entries file ≡ files file) (λ file u. file_same files r ns file a f u) names served
+daemon_same files r ns Plain a f served = tt
+daemon_same files r ns Admin a f served = tt
 
 all_taken : (i : ℕ) (ns : List Naming) → drop i ns ≡ [] → take i ns ≡ ns
 all_taken zero [] e = refl
@@ -149,69 +171,75 @@ few_after true file t v few e =
     (cc, grind (arith, nat_tests, both.0))
 few_after false file t v few e = absurd (cc)
 
-one_by : (t v : Totals) (n : Naming) (size : ℕ) (r : Result Capture PcapError) → (accepted_trace n.0 r >>= λ c. if_few n.0 (with_trace t n.1 (length c.records) size)) ≡ Ok v
-    → (v.items ≡ t.items + n.1 * length (contents_read r)) × (v.items ≤ 1048576)
-one_by t v n size (Ok c) e =
-    let few = few_after (are_few (with_trace t n.1 (length c.records) size)) n.0 (with_trace t n.1 (length c.records) size) v refl e in
+one_by : (t v : Totals) (file : List ℕ) (k size : ℕ) (r : Result Capture PcapError) → (accepted_trace file r >>= λ c. if_few file (with_trace t k (length c.records) size)) ≡ Ok v
+    → (v.items ≡ t.items + k * length (contents_read r)) × (v.items ≤ 1048576)
+one_by t v file k size (Ok c) e =
+    let few = few_after (are_few (with_trace t k (length c.records) size)) file (with_trace t k (length c.records) size) v refl e in
     let all : length (contents_in c) ≡ length c.records = rw (length-map) refl in
-    let items : t.items + n.1 * length c.records ≡ v.items = ap (λ (u : Totals). u.items) few.0 in
+    let items : t.items + k * length c.records ≡ v.items = ap (λ (u : Totals). u.items) few.0 in
     (rw all (sym items), omega (arith, items, few.1))
-one_by t v n size (Err pcap.CutHeader) e = absurd (cc)
-one_by t v n size (Err pcap.Magic) e = absurd (cc)
-one_by t v n size (Err pcap.LinkType) e = absurd (cc)
-one_by t v n size (Err (pcap.CutRecord k)) e = absurd (cc)
-one_by t v n size (Err pcap.Memory) e = absurd (cc)
+one_by t v file k size (Err pcap.CutHeader) e = absurd (cc)
+one_by t v file k size (Err pcap.Magic) e = absurd (cc)
+one_by t v file k size (Err pcap.LinkType) e = absurd (cc)
+one_by t v file k size (Err (pcap.CutRecord m)) e = absurd (cc)
+one_by t v file k size (Err pcap.Memory) e = absurd (cc)
 
-one_after : (t v : Totals) (n : Naming) (o : Option (List ℕ)) → (if_there n.0 o >>= after_bytes t n) ≡ Ok v → (v.items ≡ t.items + n.1 * length (contents_there o)) × (v.items ≤ 1048576)
-one_after t v n None e = absurd (cc)
-one_after t v n (Some bytes) e = one_by t v n (length bytes) (capture_of bytes) e
+lines_by : (t v : Totals) (file : List ℕ) (k : ℕ) (bytes : List ℕ) → after_lines t file k bytes ≡ Ok v → t.items ≤ 1048576 → (v.items ≡ t.items + k * length (contents_read (capture_of bytes))) × (v.items ≤ 1048576)
+lines_by t v file zero bytes e few =
+    let same : t ≡ v = cc in
+    let items : t.items ≡ v.items = ap (λ (u : Totals). u.items) same in
+    let none : 0 * length (contents_read (capture_of bytes)) ≡ 0 = search arith in
+    (omega (arith, items, none), omega (arith, items, few))
+lines_by t v file (suc k) bytes e few = one_by t v file (suc k) (length bytes) (capture_of bytes) e
 
-bound : {A B : Type 0} (r : Result A Status) (f : A → Result B Status) (y : B) → (r >>= f) ≡ Ok y → (x : A) × (r ≡ Ok x) × (f x ≡ Ok y)
-bound (Ok x) f y e = (x, refl, e)
-bound (Err s) f y e = absurd (cc)
+one_after : (t v : Totals) (n : Naming) (o : Option (List ℕ)) → (if_there n.0 o >>= after_bytes t n) ≡ Ok v → t.items ≤ 1048576 → (v.items ≡ t.items + n.1.lines * length (contents_there o)) × (v.items ≤ 1048576)
+one_after t v n None e few = absurd (cc)
+one_after t v n (Some bytes) e few = lines_by t v n.0 n.1.lines bytes (lines_after t v n bytes e) few
 
-after_sum : (files : Files) (t u : Totals) (ns : List Naming) → after_traces files t ns ≡ Ok u → t.items ≤ 1048576 → (u.items ≡ t.items + named_sum (items_there_in files) ns) × (u.items ≤ 1048576)
+after_sum : (files : Files) (t u : Totals) (ns : List Naming) → after_files files t ns ≡ Ok u → t.items ≤ 1048576 → (u.items ≡ t.items + named_sum (items_there_in files) ns) × (u.items ≤ 1048576)
 after_sum files t u [] e few =
     let same : t ≡ u = cc in
     let items : t.items ≡ u.items = ap (λ (v : Totals). v.items) same in
     (omega (arith, items), omega (arith, items, few))
 after_sum files t u (n ∷ ns) e few =
-    let b = bound (after_trace files t n) (λ v. after_traces files v ns) u e in
-    let one = one_after t b.0 n (files n.0) b.1 in
+    let b = bind_ok (after_file files t n) (λ v. after_files files v ns) u e in
+    let one = one_after t b.0 n (files n.0) b.1 few in
     let rest = after_sum files b.0 u ns b.2 one.1 in
     (omega (arith, one.0, rest.0, sum_one (items_there_in files) n ns), rest.1)
 
--- all that is true once all traces are read
-record IsReady (files : Files) (s : Scenario) (kept : Kept) : Type 0 where
-  pub outcome : with_traces files s ≡ Ok s
-  pub same : AllByRecursion (λ p. AllByRecursion (λ i. contents_kept kept i.given ≡ contents_of files i.given) p.items) s.phases
+-- all that is true once all files are read
+record IsReady (files : Files) (s : Scenario) (r : Reading) : Type 0 where
+  pub outcome : with_files files s ≡ Ok s
+  pub same : AllByRecursion (λ p. AllByRecursion (λ i. contents_kept r.traces.entries i.given ≡ contents_of files i.given) p.items) s.phases
+  pub served : AllByRecursion (AreServed (files_kept r.confs.entries) files) s.daemons
   pub few : all_items (contents_of files) (items_in s.phases) ≤ 1048576
 
-ready : (files : Files) (s : Scenario) (ns : List Naming) (i : ℕ) (t : Totals) (kept : Kept) → Fits s → ns ≡ named_in s.phases → drop i ns ≡ []
-    → AllByRecursion (λ n. is_some (lookup (bytes_eq n.0) kept) ≡ true) (take i ns) → Facts files (before_traces s) ns i t kept → IsReady files s kept
-ready files s ns i t kept fits named none found f =
-    let all : after_traces files (before_traces s) (named_in s.phases) ≡ Ok t =
-    ap (after_traces files (before_traces s)) (sym named) ∙ f.outcome ∙ ap (after_traces files t) none in
-    let sum = after_sum files (before_traces s) t (named_in s.phases) all fits.most_packets in
+ready : (files : Files) (s : Scenario) (ns : List Naming) (i : ℕ) (r : Reading) → Fits s → ns ≡ named_in s → drop i ns ≡ [] → AllByRecursion (IsFound r) (take i ns) → Facts files (before_traces s) ns i r → IsReady files s r
+ready files s ns i r fits named none found f =
+    let all : after_files files (before_traces s) (named_in s) ≡ Ok r.totals =
+    ap (after_files files (before_traces s)) (sym named) ∙ f.outcome ∙ ap (after_files files r.totals) none in
+    let sum = after_sum files (before_traces s) r.totals (named_in s) all fits.most_packets in
+    let each : AllByRecursion (IsFound r) (named_in s) = subst (AllByRecursion (IsFound r)) (all_taken i ns none ∙ named) found in
     record {
-      outcome = ap (λ (r : Result Totals Status). r >>= λ u. Ok s) all;
-      same = all_weaker (λ (p : Phase). AllByRecursion (λ i. IsNamed (named_in s.phases) i.given) p.items) (λ (p : Phase). AllByRecursion (λ i. contents_kept kept i.given ≡ contents_of files i.given) p.items)
-          (λ p a. all_weaker (λ (x : Item). IsNamed (named_in s.phases) x.given) (λ (x : Item). contents_kept kept x.given ≡ contents_of files x.given)
-          (λ x g. given_same files kept (named_in s.phases) x.given f.each (subst (λ (ms : List Naming). AllByRecursion (λ n. is_some (lookup (bytes_eq n.0) kept) ≡ true) ms) (all_taken i ns none ∙ named) found) g) p.items a)
-          s.phases (all_named s.phases);
-      few = omega (arith, sum.0, sum.1, named_items files s.phases);
+      outcome = ap (λ (x : Result Totals Status). x >>= λ u. Ok s) all;
+      same = all_weaker (λ (p : Phase). AllByRecursion (λ i. IsNamed (named_in s) i.given) p.items) (λ (p : Phase). AllByRecursion (λ i. contents_kept r.traces.entries i.given ≡ contents_of files i.given) p.items)
+          (λ p a. all_weaker (λ (x : Item). IsNamed (named_in s) x.given) (λ (x : Item). contents_kept r.traces.entries x.given ≡ contents_of files x.given)
+          (λ x g. given_same files r (named_in s) x.given f.traces each g) p.items a)
+          s.phases (all_named s);
+      served = all_weaker (IsServed (named_in s)) (AreServed (files_kept r.confs.entries) files) (λ k u. daemon_same files r (named_in s) k f.confs each u) s.daemons (all_served s);
+      few = omega (arith, sum.0, sum.1, named_items files s);
     }
 
 -- what a file's scenario comes to
 
-loaded_is : (files : Files) (file own : List ℕ) (s : Scenario) → files file ≡ Some own → scenario_of own ≡ Ok s → loaded files file ≡ with_traces files s
+loaded_is : (files : Files) (file own : List ℕ) (s : Scenario) → files file ≡ Some own → scenario_of own ≡ Ok s → loaded files file ≡ with_files files s
 loaded_is files file own s there spells =
-    ap (λ (o : Option (List ℕ)). if_there file o >>= scenario_of >>= with_traces files) there ∙ ap (λ (r : Result Scenario Status). r >>= with_traces files) spells
+    ap (λ (o : Option (List ℕ)). if_there file o >>= scenario_of >>= with_files files) there ∙ ap (λ (r : Result Scenario Status). r >>= with_files files) spells
 
-read_is : (files : Files) (file own : List ℕ) (s : Scenario) → files file ≡ Some own → scenario_of own ≡ Ok s → files_read files file ≡ file ∷ but file (traces_read files (before_traces s) (named_in s.phases))
+read_is : (files : Files) (file own : List ℕ) (s : Scenario) → files file ≡ Some own → scenario_of own ≡ Ok s → files_read files file ≡ file ∷ but file (further_read files (before_traces s) (named_in s))
 read_is files file own s there spells =
-    ap (λ (o : Option (List ℕ)). file ∷ but file (if_ok (if_there file o >>= scenario_of) (λ u. traces_read files (before_traces u) (named_in u.phases)))) there
-    ∙ ap (λ (r : Result Scenario Status). file ∷ but file (if_ok r (λ u. traces_read files (before_traces u) (named_in u.phases)))) spells
+    ap (λ (o : Option (List ℕ)). file ∷ but file (if_ok (if_there file o >>= scenario_of) (λ u. further_read files (before_traces u) (named_in u)))) there
+    ∙ ap (λ (r : Result Scenario Status). file ∷ but file (if_ok r (λ u. further_read files (before_traces u) (named_in u)))) spells
 
 but_append : (file : List ℕ) (xs ys : List (List ℕ)) → but file (xs ++ ys) ≡ but file xs ++ but file ys
 but_append file [] ys = refl
@@ -221,27 +249,27 @@ but_append file (x ∷ xs) ys = by (bytes_eq x file) (but_append file xs ys)
     by true e = e
     by false e = ap (λ (l : List (List ℕ)). x ∷ l) e
 
-module _ (told : Option Files) (file own : List ℕ) (s : Scenario) (kept : Kept) (old new : List StoreCall) (there : HasFile told file own) (fits : Fits s)
-    (r : ReadsAll told file own (before_traces s) (named_in s.phases) kept old new) where
+module _ (told : Option Files) (file own : List ℕ) (s : Scenario) (q : Reading) (old new : List StoreCall) (there : HasFile told file own) (fits : Fits s)
+    (r : ReadsAll told file own (before_traces s) (named_in s) q old new) where
   all_world : World told file own r.progress.has
-  all_world = world told file own r.progress.has there r.progress.told_has (subst (Distinct (file ∷ [])) (sym r.progress.names) (distinct_read file s.phases (named_in s.phases) r.i refl))
+  all_world = world told file own r.progress.has there r.progress.told_has (subst (Distinct (file ∷ [])) (sym r.progress.names) (distinct_read file s (named_in s) r.i refl))
 
-  all_facts : Facts all_world.files (before_traces s) (named_in s.phases) r.i r.t kept
+  all_facts : Facts all_world.files (before_traces s) (named_in s) r.i q
   all_facts = r.progress.facts all_world.files all_world.own_is all_world.has_is
 
-  all_ready : IsReady all_world.files s kept
-  all_ready = ready all_world.files s (named_in s.phases) r.i r.t kept fits refl r.none_left r.progress.found all_facts
+  all_ready : IsReady all_world.files s q
+  all_ready = ready all_world.files s (named_in s) r.i q fits refl r.none_left r.progress.found all_facts
 
-  pub few_kept : all_items (contents_kept kept) (items_in s.phases) ≤ 1048576
+  pub few_kept : all_items (contents_kept q.traces.entries) (items_in s.phases) ≤ 1048576
   few_kept =
-      let same = same_all (contents_kept kept) (contents_of all_world.files) (items_in s.phases) (in_all (λ (i : Item). contents_kept kept i.given ≡ contents_of all_world.files i.given) s.phases all_ready.same) in
+      let same = same_all (contents_kept q.traces.entries) (contents_of all_world.files) (items_in s.phases) (in_all (λ (i : Item). contents_kept q.traces.entries i.given ≡ contents_of all_world.files i.given) s.phases all_ready.same) in
       omega (arith, same, all_ready.few)
 
   all_read : (before : List StoreCall) (cut : Bool) → old ≡ before ++ read_of file false ∷ [] → scenario_of own ≡ Ok s → HasRead (files_read all_world.files file) cut false before new
   all_read before cut e spells =
-      let names = names_in (take r.i (named_in s.phases)) in
-      let traces : traces_read all_world.files (before_traces s) (named_in s.phases) ≡ names =
-      all_facts.read ∙ ap (λ (ms : List Naming). names ++ traces_read all_world.files r.t ms) r.none_left ∙ append-nil names in
+      let names = names_in (take r.i (named_in s)) in
+      let traces : further_read all_world.files (before_traces s) (named_in s) ≡ names =
+      all_facts.read ∙ ap (λ (ms : List Naming). names ++ further_read all_world.files q.totals ms) r.none_left ∙ append-nil names in
       record {
         read = file ∷ but file names;
         left = [];
@@ -250,14 +278,15 @@ module _ (told : Option Files) (file own : List ℕ) (s : Scenario) (kept : Kept
         calls = r.progress.calls before e;
       }
 
-  pub all_loads : (l : Loaded) (before : List StoreCall) → scenario_of own ≡ Ok s → l.scenario ≡ s → IsGiven (contents_kept kept) l → old ≡ before ++ read_of file false ∷ [] → LoadsTo told file (Ok l) before new
+  pub all_loads : (l : Loaded) (before : List StoreCall) → scenario_of own ≡ Ok s → l.scenario ≡ s → IsGiven (contents_kept q.traces.entries) (files_kept q.confs.entries) l → old ≡ before ++ read_of file false ∷ [] → LoadsTo told file (Ok l) before new
   all_loads l before spells same given e = record {
     files = all_world.files;
     told_is = all_world.told_is;
     loads = (
       loaded_is all_world.files file own s all_world.own_is spells ∙ all_ready.outcome ∙ ap Ok (sym same),
-      given_loaded all_world.files (contents_kept kept) l (subst Fits (sym same) fits) (subst (λ (u : Scenario). all_items (contents_of all_world.files) (items_in u.phases) ≤ 1048576) (sym same) all_ready.few)
-          (subst (λ (u : Scenario). AllByRecursion (λ p. AllByRecursion (λ i. contents_kept kept i.given ≡ contents_of all_world.files i.given) p.items) u.phases) (sym same) all_ready.same) given,
+      given_loaded all_world.files (files_kept q.confs.entries) (contents_kept q.traces.entries) l (subst Fits (sym same) fits) (subst (λ (u : Scenario). all_items (contents_of all_world.files) (items_in u.phases) ≤ 1048576) (sym same) all_ready.few)
+          (subst (λ (u : Scenario). AllByRecursion (λ p. AllByRecursion (λ i. contents_kept q.traces.entries i.given ≡ contents_of all_world.files i.given) p.items) u.phases) (sym same) all_ready.same)
+          (subst (λ (u : Scenario). AllByRecursion (AreServed (files_kept q.confs.entries) all_world.files) u.daemons) (sym same) all_ready.served) given,
     );
     reads = all_read before false e spells;
   }
@@ -315,60 +344,61 @@ refusing false told file own has names name bytes e bytes_of there a are d more 
     }
 
 module _ (told : Option Files) (file own : List ℕ) (s : Scenario) (st : Status) (old new : List StoreCall) (there : HasFile told file own)
-    (r : Stops told file own (before_traces s) (named_in s.phases) st old new) where
+    (r : Stops told file own (before_traces s) (named_in s) st old new) where
   ns : List Naming
-  ns = named_in s.phases
+  ns = named_in s
 
   abbrev done : List (List ℕ)
-  done = names_in (take r.i (named_in s.phases))
+  done = names_in (take r.i (named_in s))
 
   before_it : Distinct (file ∷ []) (but file done)
-  before_it = distinct_read file s.phases (named_in s.phases) r.i refl
+  before_it = distinct_read file s (named_in s) r.i refl
 
   with_it : Distinct (file ∷ []) (but file (done ++ r.n.0 ∷ []))
   with_it =
-      subst (λ (names : List (List ℕ)). Distinct (file ∷ []) (but file names)) (ap names_in (take_next r.i (named_in s.phases) r.n r.left r.at) ∙ map-append (λ (m : Naming). m.0) (take r.i (named_in s.phases)) (r.n ∷ []))
-      (distinct_read file s.phases (named_in s.phases) (r.i + 1) refl)
+      subst (λ (names : List (List ℕ)). Distinct (file ∷ []) (but file names)) (ap names_in (take_next r.i (named_in s) r.n r.left r.at) ∙ map-append (λ (m : Naming). m.0) (take r.i (named_in s)) (r.n ∷ []))
+      (distinct_read file s (named_in s) (r.i + 1) refl)
 
   stop_world : World told file own r.progress.has
   stop_world = world told file own r.progress.has there r.progress.told_has (subst (Distinct (file ∷ [])) (sym r.progress.names) before_it)
 
-  stop_order : (files : Files) → files file ≡ Some own → scenario_of own ≡ Ok s → Facts files (before_traces s) (named_in s.phases) r.i r.t r.kept
-      → files_read files file ≡ (file ∷ but file (done ++ r.n.0 ∷ [])) ++ but file (if_ok (after_trace files r.t r.n) (λ v. traces_read files v r.left))
+  stop_order : (files : Files) → files file ≡ Some own → scenario_of own ≡ Ok s → Facts files (before_traces s) (named_in s) r.i r.r
+      → files_read files file ≡ (file ∷ but file (done ++ r.n.0 ∷ [])) ++ but file (if_ok (after_file files r.r.totals r.n) (λ v. further_read files v r.left))
   stop_order files its spells f =
-      let rest = if_ok (after_trace files r.t r.n) (λ v. traces_read files v r.left) in
+      let rest = if_ok (after_file files r.r.totals r.n) (λ v. further_read files v r.left) in
       read_is files file own s its spells
-      ∙ ap (λ (l : List (List ℕ)). file ∷ but file l) (f.read ∙ ap (λ (ms : List Naming). done ++ traces_read files r.t ms) r.at ∙ sym (append_assoc done (r.n.0 ∷ []) rest))
+      ∙ ap (λ (l : List (List ℕ)). file ∷ but file l) (f.read ∙ ap (λ (ms : List Naming). done ++ further_read files r.r.totals ms) r.at ∙ sym (append_assoc done (r.n.0 ∷ []) rest))
       ∙ ap (λ (l : List (List ℕ)). file ∷ l) (but_append file (done ++ r.n.0 ∷ []) rest)
 
-  stop_read : (files : Files) (failed : Bool) (before : List StoreCall) → files file ≡ Some own → scenario_of own ≡ Ok s → Facts files (before_traces s) (named_in s.phases) r.i r.t r.kept → old ≡ before ++ read_of file false ∷ []
+  stop_read : (files : Files) (failed : Bool) (before : List StoreCall) → files file ≡ Some own → scenario_of own ≡ Ok s → Facts files (before_traces s) (named_in s) r.i r.r → old ≡ before ++ read_of file false ∷ []
       → (bytes_eq r.n.0 file ≡ true → failed ≡ false) → new ≡ r.now ++ read_if (bytes_eq r.n.0 file) r.n.0 failed → HasRead (files_read files file) true failed before new
   stop_read files failed before its spells f e good calls = record {
     read = file ∷ but file (done ++ r.n.0 ∷ []);
-    left = but file (if_ok (after_trace files r.t r.n) (λ v. traces_read files v r.left));
+    left = but file (if_ok (after_file files r.r.totals r.n) (λ v. further_read files v r.left));
     order = stop_order files its spells f;
     all = λ c. absurd (cc);
     calls = stop_calls (bytes_eq r.n.0 file) failed file done r.n.0 before r.now new refl good (r.progress.calls before e) calls;
   }
 
-  refused_loads : (name : List ℕ) (k : Rattle.mr_load.specs.declared.status.TraceCause.TraceCause) (before : List StoreCall) → scenario_of own ≡ Ok s → old ≡ before ++ read_of file false ∷ []
-      → IsRefused told file own r.t r.n (status.Trace name k) → new ≡ r.now ++ read_if (bytes_eq r.n.0 file) r.n.0 false → LoadsTo told file (Err (status.Trace name k)) before new
-  refused_loads name k before spells e refusal calls =
+  refused_loads : (t : Status) (before : List StoreCall) → scenario_of own ≡ Ok s → old ≡ before ++ read_of file false ∷ [] → IsRefused told file own r.r.totals r.n t → new ≡ r.now ++ read_if (bytes_eq r.n.0 file) r.n.0 false
+      → ((files : Files) → loaded files file ≡ Err t → LoadsFrom files file (Err t)) → cuts t ≡ false → fails t ≡ false → LoadsTo told file (Err t) before new
+  refused_loads t before spells e refusal calls loads whole good =
       let w = refusing (bytes_eq r.n.0 file) told file own r.progress.has done r.n.0 refusal.bytes refl refusal.there there r.progress.told_has r.progress.names before_it with_it in
       let f = r.progress.facts w.files w.own_is w.has_is in
-      let after : after_trace w.files r.t r.n ≡ Err (status.Trace name k) = after_is w.files r.t r.n refusal.bytes (Err (status.Trace name k)) w.bytes_are refusal.refused in
-      let outcome : after_traces w.files (before_traces s) (named_in s.phases) ≡ Err (status.Trace name k) =
-      f.outcome ∙ ap (after_traces w.files r.t) r.at ∙ ap (λ (x : Result Totals Status). x >>= λ u. after_traces w.files u r.left) after in
+      let after : after_file w.files r.r.totals r.n ≡ Err t = after_is w.files r.r.totals r.n refusal.bytes (Err t) w.bytes_are refusal.refused in
+      let outcome : after_files w.files (before_traces s) (named_in s) ≡ Err t =
+      f.outcome ∙ ap (after_files w.files r.r.totals) r.at ∙ ap (λ (x : Result Totals Status). x >>= λ u. after_files w.files u r.left) after in
       record {
         files = w.files;
         told_is = w.told_is;
-        loads = loaded_is w.files file own s w.own_is spells ∙ ap (λ (x : Result Totals Status). x >>= λ u. Ok s) outcome;
+        loads = loads w.files (loaded_is w.files file own s w.own_is spells ∙ ap (λ (x : Result Totals Status). x >>= λ u. Ok s) outcome);
         reads = record {
           read = file ∷ but file (done ++ r.n.0 ∷ []);
           left = [];
-          order = stop_order w.files w.own_is spells f ∙ ap (λ (x : Result Totals Status). (file ∷ but file (done ++ r.n.0 ∷ [])) ++ but file (if_ok x (λ v. traces_read w.files v r.left))) after;
+          order = stop_order w.files w.own_is spells f ∙ ap (λ (x : Result Totals Status). (file ∷ but file (done ++ r.n.0 ∷ [])) ++ but file (if_ok x (λ v. further_read w.files v r.left))) after;
           all = λ c. refl;
-          calls = stop_calls (bytes_eq r.n.0 file) false file done r.n.0 before r.now new refl (λ e. refl) (r.progress.calls before e) calls;
+          calls = stop_calls (bytes_eq r.n.0 file) false file done r.n.0 before r.now new refl (λ e. refl) (r.progress.calls before e) calls
+              ∙ ap (λ (b : Bool). before ++ reads_of (file ∷ but file (done ++ r.n.0 ∷ [])) b) (sym good);
         };
       }
 
@@ -395,40 +425,35 @@ module _ (told : Option Files) (file own : List ℕ) (s : Scenario) (st : Status
         reads = stop_read stop_world.files true before stop_world.own_is spells f e (λ t. absurd (cc)) calls;
       }
 
-pub stop_loads : (told : Option Files) (file own : List ℕ) (s : Scenario) (st : Status) (old new : List StoreCall) → HasFile told file own → Stops told file own (before_traces s) (named_in s.phases) st old new
+pub stop_loads : (told : Option Files) (file own : List ℕ) (s : Scenario) (st : Status) (old new : List StoreCall) → HasFile told file own → Stops told file own (before_traces s) (named_in s) st old new
     → (before : List StoreCall) → scenario_of own ≡ Ok s → old ≡ before ++ read_of file false ∷ [] → LoadsTo told file (Err st) before new
 stop_loads told file own s status.Memory old new there r before spells e = memory_loads told file own s status.Memory old new there r before spells e r.calls
 stop_loads told file own s (status.StoreFault name) old new there r before spells e = fault_loads told file own s (status.StoreFault name) old new there r name before spells e r.stop.0 r.stop.1 r.calls
-stop_loads told file own s (status.Trace name k) old new there r before spells e = refused_loads told file own s (status.Trace name k) old new there r name k before spells e r.stop r.calls
+stop_loads told file own s (status.Trace name k) old new there r before spells e = refused_loads told file own s (status.Trace name k) old new there r (status.Trace name k) before spells e r.stop r.calls (λ files l. l) refl refl
+stop_loads told file own s (status.Conf name line k text) old new there r before spells e = refused_loads told file own s (status.Conf name line k text) old new there r (status.Conf name line k text) before spells e r.stop r.calls (λ files l. l) refl refl
 stop_loads told file own s status.Good old new there r before spells e = absurd r.stop
 stop_loads told file own s status.Usage old new there r before spells e = absurd r.stop
 stop_loads told file own s (status.Scenario line k text) old new there r before spells e = absurd r.stop
 stop_loads told file own s status.SinkFault old new there r before spells e = absurd r.stop
 stop_loads told file own s status.ControlFull old new there r before spells e = absurd r.stop
-stop_loads told file own s (status.NotBuilt line) old new there r before spells e = absurd r.stop
 
 -- where the scenario itself is refused
 
 abbrev IsRefusal : Status → Type 0
 IsRefusal (status.Scenario line k text) = Unit {0}
 IsRefusal status.Memory = Unit {0}
-IsRefusal (status.NotBuilt line) = Unit {0}
 IsRefusal s = ⊥
 
 same_err : (s t : Status) → ◌≡◌ {A = Result Scenario Status} (Err s) (Err t) → s ≡ t
 same_err s t e = cc
 
-built_refused : (o : Option ℕ) (t : Scenario) (s : Status) → if_built o t ≡ Err s → IsRefusal s
-built_refused None t s e = absurd (cc)
-built_refused (Some n) t s e = subst IsRefusal (same_err (status.NotBuilt n) s e) tt
-
-accepted_refused : (r : Result Scenario ScenarioError) (find : Scenario → Option ℕ) (s : Status) → (accepted r >>= λ t. if_built (find t) t) ≡ Err s → IsRefusal s
-accepted_refused (Ok t) find s e = built_refused (find t) t s e
-accepted_refused (Err (error.Bad line k text)) find s e = subst IsRefusal (same_err (status.Scenario line k text) s e) tt
-accepted_refused (Err error.Memory) find s e = subst IsRefusal (same_err status.Memory s e) tt
+accepted_refused : (r : Result Scenario ScenarioError) (s : Status) → accepted r ≡ Err s → IsRefusal s
+accepted_refused (Ok t) s e = absurd (cc)
+accepted_refused (Err (error.Bad line k text)) s e = subst IsRefusal (same_err (status.Scenario line k text) s e) tt
+accepted_refused (Err error.Memory) s e = subst IsRefusal (same_err status.Memory s e) tt
 
 refused : (bytes : List ℕ) (s : Status) → scenario_of bytes ≡ Err s → IsRefusal s
-refused bytes s e = accepted_refused (spelled bytes) (first_unbuilt bytes) s e
+refused bytes s e = accepted_refused (spelled bytes) s e
 
 refused_at : (told : Option Files) (file own : List ℕ) (s : Status) (before now : List StoreCall) → HasFile told file own → scenario_of own ≡ Err s → now ≡ before ++ read_of file false ∷ []
     → ((files : Files) → loaded files file ≡ Err s → LoadsFrom files file (Err s)) → cuts s ≡ false → fails s ≡ false → LoadsTo told file (Err s) before now
@@ -437,12 +462,12 @@ refused_at told file own s before now there e calls loads whole good =
     record {
       files = w.files;
       told_is = w.told_is;
-      loads = loads w.files (ap (λ (o : Option (List ℕ)). if_there file o >>= scenario_of >>= with_traces w.files) w.own_is ∙ ap (λ (r : Result Scenario Status). r >>= with_traces w.files) e);
+      loads = loads w.files (ap (λ (o : Option (List ℕ)). if_there file o >>= scenario_of >>= with_files w.files) w.own_is ∙ ap (λ (r : Result Scenario Status). r >>= with_files w.files) e);
       reads = record {
         read = file ∷ [];
         left = [];
-        order = ap (λ (o : Option (List ℕ)). file ∷ but file (if_ok (if_there file o >>= scenario_of) (λ u. traces_read w.files (before_traces u) (named_in u.phases)))) w.own_is
-            ∙ ap (λ (r : Result Scenario Status). file ∷ but file (if_ok r (λ u. traces_read w.files (before_traces u) (named_in u.phases)))) e;
+        order = ap (λ (o : Option (List ℕ)). file ∷ but file (if_ok (if_there file o >>= scenario_of) (λ u. further_read w.files (before_traces u) (named_in u)))) w.own_is
+            ∙ ap (λ (r : Result Scenario Status). file ∷ but file (if_ok r (λ u. further_read w.files (before_traces u) (named_in u)))) e;
         all = λ c. refl;
         calls = calls ∙ ap (λ (b : Bool). before ++ reads_of (file ∷ []) b) (sym good);
       };
@@ -470,8 +495,8 @@ pub scenario_loads : (told : Option Files) (file own : List ℕ) (s : Status) (b
     → LoadsTo told file (Err s) before now
 scenario_loads told file own status.Memory before now there e calls = memory_at told file before now calls
 scenario_loads told file own (status.Scenario line k text) before now there e calls = refused_at told file own (status.Scenario line k text) before now there e calls (λ files l. l) refl refl
-scenario_loads told file own (status.NotBuilt line) before now there e calls = refused_at told file own (status.NotBuilt line) before now there e calls (λ files l. l) refl refl
 scenario_loads told file own (status.StoreFault name) before now there e calls = absurd (refused own (status.StoreFault name) e)
+scenario_loads told file own (status.Conf name line k text) before now there e calls = absurd (refused own (status.Conf name line k text) e)
 scenario_loads told file own (status.Trace name k) before now there e calls = absurd (refused own (status.Trace name k) e)
 scenario_loads told file own status.Good before now there e calls = absurd (refused own status.Good e)
 scenario_loads told file own status.Usage before now there e calls = absurd (refused own status.Usage e)

@@ -6,12 +6,12 @@ pub mod Made
 pub mod Dues
 pub mod HeldBytes
 pub mod Loading
-pub mod Unbuilt
 pub mod Told
 pub mod Faults
 pub mod Refusals
 pub mod Passing
 pub mod Gathering
+pub mod Machines
 pub mod Loads
 pub mod Reading
 pub mod RunLimits

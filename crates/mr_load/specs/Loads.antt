@@ -11,19 +11,21 @@ use Rattle.mr_load.specs.Loading.{items_in, limits_by, of_lanes, run_limits, ski
 use Rattle.mr_load.specs.Refusals.{loaded, files_read}
 use Rattle.mr_load.specs.Told.{IsTold}
 use Rattle.mr_load.specs.declared.loading.Loaded.{Loaded}
+use Rattle.mr_load.specs.Machines.{machines_in}
 use Rattle.mr_load.specs.declared.status.Status.{Status}
 use Rattle.mr_load.specs.declared.status.Status.TheVariants as status
 use Rattle.mr_scenario.specs.Fits.{Fits}
 use Rattle.mr_scenario.specs.declared.scenario.Given.{Given}
 
--- A scenario with what its items give, where this is what its lines bring.
-pub record IsGiven (contents : Given → List Content) (l : Loaded) : Type 0 where
+-- A scenario with what its items give and its machines, where its lines bring this and these are its configurations.
+pub record IsGiven (contents : Given → List Content) (confs : Files) (l : Loaded) : Type 0 where
   pub limits : l.limits ≡ limits_by contents l.scenario
   pub lanes : l.lanes ≡ map (lane_by contents l.scenario) (one_to l.scenario.lanes)
   pub skips : l.skips ≡ of_lanes skip_of contents l.scenario
   pub skip_devs : l.skip_devs ≡ of_lanes skip_dev contents l.scenario
+  pub machines : l.machines ≡ machines_in confs l.scenario
 
--- A scenario whose lines are built and whose traces were read, with what its items give.
+-- A scenario whose files were read, with what its items give, and a routing machine for each daemon that has one.
 pub record IsLoaded (files : Files) (l : Loaded) : Type 0 where
   pub fits : Fits l.scenario
   pub items : all_items (contents_of files) (items_in l.scenario.phases) ≤ MOST_ITEMS
@@ -31,6 +33,7 @@ pub record IsLoaded (files : Files) (l : Loaded) : Type 0 where
   pub lanes : l.lanes ≡ map (lane_of files l.scenario) (one_to l.scenario.lanes)
   pub skips : l.skips ≡ skips_of files l.scenario
   pub skip_devs : l.skip_devs ≡ skip_devs_of files l.scenario
+  pub machines : l.machines ≡ machines_in files l.scenario
 
 -- What a function returned, seen by view, is this, or this status; memory may run out.
 abbrev pub Gives : {A B : Type 0} → (A → B) → Result A Status → Result B Status → Type 0
@@ -45,7 +48,7 @@ LoadsFrom files file (Ok l) = (loaded files file ≡ Ok l.scenario) × IsLoaded 
 LoadsFrom files file (Err status.Memory) = Unit {0}
 LoadsFrom files file (Err (status.StoreFault name)) = Contains (files_read files file) name
 LoadsFrom files file (Err (status.Scenario line k text)) = loaded files file ≡ Err (status.Scenario line k text)
-LoadsFrom files file (Err (status.NotBuilt line)) = loaded files file ≡ Err (status.NotBuilt line)
+LoadsFrom files file (Err (status.Conf name line k text)) = loaded files file ≡ Err (status.Conf name line k text)
 LoadsFrom files file (Err (status.Trace name cause)) = loaded files file ≡ Err (status.Trace name cause)
 LoadsFrom files file (Err s) = ⊥
 

@@ -1,10 +1,10 @@
 -- A history has, phase by phase, each lane's packets and each daemon's calls once and in their order. What a scenario asks
--- stands in its lines and in the traces that they name.
+-- stands in its lines and in the traces that they name; what a routing machine asks, in its configurations too.
 use Rattle.std.specs.Prelude.{◌≡◌, ℕ, ◌+◌, ◌==◌, ◌≤◌, false, is_none, if◌then◌else◌, Some, None, List, [], ◌∷◌, ◌++◌, length, map, flat_map, slice_index}
 use Rattle.std.specs.List.{AllByRecursion, list_any}
 use Rattle.mr_base.specs.Heads.{cause_of, two_at, four_at}
 use Rattle.mr_base.specs.Outside.{Files}
-use Rattle.mr_load.specs.Callers.{IsCalled}
+use Rattle.mr_load.specs.Callers.{IsCalled, has_machine, kind_of}
 use Rattle.mr_load.specs.Items.{Content, contents_of, items_by, numbered}
 use Rattle.mr_model.specs.declared.entry.Entry.{Entry}
 use Rattle.mr_model.specs.declared.entry.Entry.TheVariants.{Call, Slow, Settle, Tick, Recv, EndPhase}
@@ -17,7 +17,11 @@ use Rattle.mr_scenario.specs.declared.scenario.Phase.{Phase}
 use Rattle.mr_scenario.specs.declared.scenario.Scenario.{Scenario}
 use Rattle.mr_scenario.specs.declared.scenario.Script.{Script}
 use Rattle.mr_scenario.specs.declared.scenario.Script.TheVariants as script
+use Rattle.mr_scenario.specs.declared.scenario.DaemonKind.TheVariants.{Smc}
 use Rattle.mr_scenario.specs.declared.scenario.ScriptLine.{ScriptLine}
+use Rattle.smc_daemon.specs.Courses.{DrivesFrom}
+use Rattle.smc_daemon.specs.Machines.{machine_of}
+use Rattle.smc_words.specs.Words.{Word}
 
 -- a packet as a history names it: its item number and its flow
 pub record Sent : Type 0 where
@@ -85,12 +89,12 @@ abbrev pub to_ask : ℕ → Phase → List Script
 to_ask d p = flat_map (of_daemon d) p.script
 
 -- These entries are those of a phase: no end of a phase, nothing of a lane or a daemon that the scenario does not have, and of
--- each lane the packets and of each daemon the lines, once and in order.
+-- each lane the packets and of each daemon without a routing machine the lines, once and in order.
 pub record PartOf (files : Files) (scenario : Scenario) (before : List Item) (p : Phase) (part : List Entry) : Type 0 where
   pub no_end : list_any is_end part ≡ false
   pub callers : AllByRecursion (IsCalled scenario) part
   pub lanes : (lane : ℕ) → 1 ≤ lane → lane ≤ scenario.lanes → sent lane part ≡ to_send files lane before p
-  pub daemons : (d : ℕ) → 1 ≤ d → d ≤ length scenario.daemons → asked d part ≡ to_ask d p
+  pub daemons : (d : ℕ) → 1 ≤ d → d ≤ length scenario.daemons → has_machine scenario d ≡ false → asked d part ≡ to_ask d p
 
 -- a history of these phases, behind items of former ones: each phase's entries and its end, and nothing after the last
 abbrev pub MadeFrom : Files → Scenario → List Item → List Phase → List Entry → Type 0
@@ -99,5 +103,12 @@ MadeFrom files scenario before (p ∷ ps) h =
     (part : List Entry) × (rest : List Entry) × (h ≡ part ++ EndPhase ∷ rest)
     × PartOf files scenario before p part × MadeFrom files scenario (before ++ p.items) ps rest
 
-abbrev pub Made : Files → Scenario → List Entry → Type 0
-Made files scenario h = MadeFrom files scenario [] scenario.phases h
+-- Each daemon with a routing machine did in these phases just what its machine does for its lines.
+abbrev pub MachinesDrive : Files → Scenario → List Phase → List Entry → Type 0
+MachinesDrive files scenario ps h =
+    (d : ℕ) (names : List Word) → kind_of scenario d ≡ Some (Smc names)
+    → DrivesFrom d (machine_of files scenario names) [] ps h
+
+pub record Made (files : Files) (scenario : Scenario) (h : List Entry) : Type 0 where
+  pub phases : MadeFrom files scenario [] scenario.phases h
+  pub machines : MachinesDrive files scenario scenario.phases h

@@ -1,9 +1,8 @@
 -- The scenario that a file spells, or the status by which it is refused.
-use Rattle.std.specs.Prelude.{ℕ, ◌+◌, ◌*◌, ◌&&◌, nat_le, not, if◌then◌else◌, Bool, Option, Some, None, Result, Ok, Err, List, [], ◌∷◌, bytes_eq, filter, length}
+use Rattle.std.specs.Prelude.{ℕ, zero, suc, ◌+◌, ◌*◌, ◌&&◌, true, false, nat_le, not, if◌then◌else◌, Bool, Option, Some, None, Result, Ok, Err, List, [], ◌∷◌, bytes_eq, filter, length}
 use Rattle.mr_base.specs.Outside.{Files}
 use Rattle.mr_base.specs.declared.limits.TheConstants.{MOST_ITEMS}
 use Rattle.mr_load.specs.Naming.{Naming, named_in}
-use Rattle.mr_load.specs.Unbuilt.{first_unbuilt}
 use Rattle.mr_load.specs.declared.status.Status.{Status}
 use Rattle.mr_load.specs.declared.status.Status.TheVariants as status
 use Rattle.mr_load.specs.declared.totals.TheConstants.{MOST_TRACE_BYTES}
@@ -18,6 +17,10 @@ use Rattle.mr_scenario.specs.declared.scenario.Scenario.{Scenario}
 use Rattle.mr_scenario.specs.declared.stop.ScenarioError.{ScenarioError}
 use Rattle.mr_scenario.specs.declared.stop.ScenarioError.TheVariants as error
 use Rattle.mr_words.specs.Binds.{◌>>=◌}
+use Rattle.smc_conf.specs.Spelled.{spelled as conf_spelled}
+use Rattle.smc_conf.specs.declared.conf.Conf.{Conf}
+use Rattle.smc_conf.specs.declared.stop.ConfError.{ConfError}
+use Rattle.smc_conf.specs.declared.stop.ConfError.TheVariants as conf
 
 -- a file that is not there is a fault
 abbrev pub if_there : List ℕ → Option (List ℕ) → Result (List ℕ) Status
@@ -30,14 +33,15 @@ accepted (Ok s) = Ok s
 accepted (Err (error.Bad line k text)) = Err (status.Scenario line k text)
 accepted (Err error.Memory) = Err status.Memory
 
--- the first line whose form is not built, if there is one
-abbrev pub if_built : {A : Type 0} → Option ℕ → A → Result A Status
-if_built None x = Ok x
-if_built (Some line) x = Err (status.NotBuilt line)
-
--- the scenario that bytes spell: a bad line comes first, then one whose form is not built
+-- the scenario that bytes spell, or its first bad line
 abbrev pub scenario_of : List ℕ → Result Scenario Status
-scenario_of bytes = accepted (spelled bytes) >>= λ s. if_built (first_unbuilt bytes s) s
+scenario_of bytes = accepted (spelled bytes)
+
+-- a file that is no configuration, by its first bad line
+abbrev pub accepted_conf : List ℕ → Result Conf ConfError → Result Conf Status
+accepted_conf file (Ok c) = Ok c
+accepted_conf file (Err (conf.Bad line k text)) = Err (status.Conf file line k text)
+accepted_conf file (Err conf.Memory) = Err status.Memory
 
 -- a file that is no trace, by its cause
 abbrev pub accepted_trace : List ℕ → Result Capture PcapError → Result Capture Status
@@ -62,41 +66,52 @@ are_few t = nat_le t.items MOST_ITEMS && nat_le t.bytes MOST_TRACE_BYTES
 abbrev pub if_few : List ℕ → Totals → Result Totals Status
 if_few file t = if are_few t then Ok t else Err (status.Trace file cause.TooMany)
 
--- the totals with a file of these bytes, or why it is refused
+-- A file that lines name is a trace; the totals with it, or why it is refused.
+abbrev pub after_lines : Totals → List ℕ → ℕ → List ℕ → Result Totals Status
+after_lines t file zero bytes = Ok t
+after_lines t file (suc k) bytes =
+    accepted_trace file (capture_of bytes) >>= λ c. if_few file (with_trace t (suc k) (length c.records) (length bytes))
+
+-- A file that a daemon names is a configuration.
+abbrev pub as_named : Bool → List ℕ → List ℕ → Result (List ℕ) Status
+as_named false file bytes = Ok bytes
+as_named true file bytes = accepted_conf file (conf_spelled bytes) >>= λ c. Ok bytes
+
+-- the totals with a file of these bytes, or why it is refused: as a configuration first
 abbrev pub after_bytes : Totals → Naming → List ℕ → Result Totals Status
-after_bytes t n bytes = accepted_trace n.0 (capture_of bytes) >>= λ c. if_few n.0 (with_trace t n.1 (length c.records) (length bytes))
+after_bytes t n bytes = as_named n.1.conf n.0 bytes >>= after_lines t n.0 n.1.lines
 
-abbrev pub after_trace : Files → Totals → Naming → Result Totals Status
-after_trace files t n = if_there n.0 (files n.0) >>= after_bytes t n
+abbrev pub after_file : Files → Totals → Naming → Result Totals Status
+after_file files t n = if_there n.0 (files n.0) >>= after_bytes t n
 
--- one file after the other: the first that is not there, is no trace, or is too much with those before it
-abbrev pub after_traces : Files → Totals → List Naming → Result Totals Status
-after_traces files t [] = Ok t
-after_traces files t (n ∷ ns) = after_trace files t n >>= λ u. after_traces files u ns
+-- one file after the other: the first that is not there, or is refused
+abbrev pub after_files : Files → Totals → List Naming → Result Totals Status
+after_files files t [] = Ok t
+after_files files t (n ∷ ns) = after_file files t n >>= λ u. after_files files u ns
 
-abbrev pub with_traces : Files → Scenario → Result Scenario Status
-with_traces files s = after_traces files (before_traces s) (named_in s.phases) >>= λ t. Ok s
+abbrev pub with_files : Files → Scenario → Result Scenario Status
+with_files files s = after_files files (before_traces s) (named_in s) >>= λ t. Ok s
 
 -- The scenario that loading gives of the file of this name, or the first refusal: the file's, then that of its lines, and then
--- those of the traces that they name, in the order of their first naming.
+-- those of the files that they name, in the order of their first naming.
 abbrev pub loaded : Files → List ℕ → Result Scenario Status
-loaded files file = if_there file (files file) >>= scenario_of >>= with_traces files
+loaded files file = if_there file (files file) >>= scenario_of >>= with_files files
 
 -- what comes behind a result, where it is one
 abbrev pub if_ok : {A B : Type 0} → Result A Status → (A → List B) → List B
 if_ok (Ok x) f = f x
 if_ok (Err s) f = []
 
--- these traces in their order, up to the first that is refused
-abbrev pub traces_read : Files → Totals → List Naming → List (List ℕ)
-traces_read files t [] = []
-traces_read files t (n ∷ ns) = n.0 ∷ if_ok (after_trace files t n) (λ u. traces_read files u ns)
+-- these files in their order, up to the first that is refused
+abbrev pub further_read : Files → Totals → List Naming → List (List ℕ)
+further_read files t [] = []
+further_read files t (n ∷ ns) = n.0 ∷ if_ok (after_file files t n) (λ u. further_read files u ns)
 
 abbrev pub but : List ℕ → List (List ℕ) → List (List ℕ)
 but file names = filter (λ name. not (bytes_eq name file)) names
 
--- The files that loading reads, in their order, each once: the scenario, and then the traces that its lines name, up to the first
+-- The files that loading reads, in their order, each once: the scenario, and then the files that it names, up to the first
 -- refusal. A scenario that names itself is not read again.
 abbrev pub files_read : Files → List ℕ → List (List ℕ)
 files_read files file =
-    file ∷ but file (if_ok (if_there file (files file) >>= scenario_of) (λ s. traces_read files (before_traces s) (named_in s.phases)))
+    file ∷ but file (if_ok (if_there file (files file) >>= scenario_of) (λ s. further_read files (before_traces s) (named_in s)))

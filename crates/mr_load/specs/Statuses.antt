@@ -12,4 +12,4 @@ number_of (status.StoreFault file) = 4
 number_of status.SinkFault = 5
 number_of status.Memory = 6
 number_of status.ControlFull = 8
-number_of (status.NotBuilt line) = 12
+number_of (status.Conf file line k text) = 11

@@ -1,20 +1,21 @@
-//! A scenario is loaded: read from a store with the traces that it names, and its items told apart
-//! into the packets and the skips of each lane. And what a history of a scenario has to have: each lane's packets and each daemon's
-//! calls, once and in their order.
+//! A scenario is loaded: read from a store with the files that it names, its items told apart into the
+//! packets and the skips of each lane, and the routing machines of its daemons made. And what a
+//! history of a scenario has to have: each lane's packets and each daemon's calls, once and in their
+//! order.
 #![tactic(auto)]
 
 mod gathering;
 mod lane;
 mod laws;
 mod loading;
+mod machines;
+mod named_file;
 mod naming;
 mod parts;
 mod passing;
 mod reading;
 mod status;
 mod totals;
-mod trace_name;
-mod unbuilt;
 
 pub use lane::LanePackets;
 pub use laws::{every_item, lanes_by_phases, limits_within};

@@ -13,9 +13,9 @@ ghost use Rattle.mr_load.specs.Passing.{Passes, PassesRow, HasPassed};
 ghost use Rattle.mr_pcap.specs.Traces.{ip_part_of};
 
 use crate::lane::LanePackets;
+use crate::named_file::NamedFile;
 use crate::parts::items_of;
 use crate::reading::Traces;
-use crate::trace_name::TraceName;
 use mr_base::{HeadError, LaneNo};
 use mr_ip::cause_of;
 use mr_lines::Skip;
@@ -173,7 +173,7 @@ fn pass_line(
 {
     match &item.given {
         Given::Bytes(bytes) => pass_bytes(passed, phase, item, bytes.0.as_slice()),
-        Given::Trace(file) => match traces.get(&TraceName::new(file.as_str())) {
+        Given::Trace(file) => match traces.get(&NamedFile::new(file.as_str())) {
             Some(trace) => pass_trace(passed, phase, item, trace),
             None => Ok(()),
         },

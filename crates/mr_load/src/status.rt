@@ -3,6 +3,7 @@ ghost use Rattle.mr_load.specs.Statuses.{number_of};
 
 use mr_base::{FileName, List};
 use mr_scenario::Kind;
+use smc_conf::Kind as ConfKind;
 
 /// Why a file is refused as a trace: the first of these that holds, in the order `CutHeader`, `Magic`,
 /// `LinkType`, `CutRecord`, `TooMany`.
@@ -43,6 +44,14 @@ pub enum Status {
         file: FileName,
         cause: TraceCause,
     },
+    /// The file, which a daemon names, is the first that is no accepted configuration: its first bad
+    /// line, what is wrong with it, and its first 4,096 bytes. Nothing was written.
+    Conf {
+        file: FileName,
+        line: u32,
+        kind: ConfKind,
+        text: List<u8>,
+    },
     /// The file could not be read. Nothing was written.
     StoreFault {
         file: FileName,
@@ -51,17 +60,13 @@ pub enum Status {
     SinkFault,
     /// Memory ran out. Nothing was written.
     Memory,
-    /// The lines of the daemons are more than `limit control` allows. Nothing was written.
+    /// The daemons' calls, ticks and receives are more than `limit control` allows. Nothing was written.
     ControlFull,
-    /// The first line of the scenario whose form is not built yet. Nothing was written.
-    NotBuilt {
-        line: u32,
-    },
 }
 
 impl Status {
     /// The exit status of the program: 0 Good, 1 Usage, 2 Scenario, 3 Trace, 4 StoreFault,
-    /// 5 SinkFault, 6 Memory, 8 ControlFull, 12 NotBuilt.
+    /// 5 SinkFault, 6 Memory, 8 ControlFull, 11 Conf.
     pub fn number(&self) -> u8
         ensures { result ≡ number_of self.now }
     {
@@ -74,7 +79,7 @@ impl Status {
             Status::SinkFault => 5,
             Status::Memory => 6,
             Status::ControlFull => 8,
-            Status::NotBuilt { .. } => 12,
+            Status::Conf { .. } => 11,
         }
     }
 }

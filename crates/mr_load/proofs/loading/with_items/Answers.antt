@@ -1,4 +1,4 @@
-use Rattle.std.proofs.Common.{arith, ◌∙◌, refl}
+use Rattle.std.proofs.Common.{◌∙◌, refl}
 use Rattle.mr_load.specs.Kept.{contents_kept}
 use Rattle.mr_load.specs.Passing.{EachFrom, HasPassed}
 use Rattle.mr_load.proofs.Gathered.{lanes_are, counts_are, skips_are, devs_are, few_packets}
@@ -20,4 +20,5 @@ returns-clause-given c =
       lanes = c.in_ok-lanes.ensures.lanes ∙ lanes_are C s passed count has;
       skips = c.in_ok-lanes.ensures.skips ∙ skips_are C s passed count has;
       skip_devs = c.in_ok-lanes.ensures.devs ∙ devs_are C s passed count has;
+      machines = c.in_ok-machines.ensures;
     }

@@ -1,4 +1,4 @@
-//! The names of traces' files, by which traces are found.
+//! The names of files, by which what was read of them is found.
 
 ghost use Rattle.std.specs.Prelude.{◌≡◌, ◌≤◌, length, bytes_eq};
 ghost use Rattle.std.proofs.Common.{rules};
@@ -10,9 +10,9 @@ use std::marker::Model;
 
 /// The name of a file, at most 255 bytes, which contracts see as its bytes.
 #[derive(Debug, Drop)]
-pub(crate) struct TraceName(FileName);
+pub(crate) struct NamedFile(FileName);
 
-impl Model for TraceName {
+impl Model for NamedFile {
     ghost use Rattle.std.specs.Prelude.{List, ℕ};
 
     ghost Value = { List ℕ };
@@ -20,13 +20,13 @@ impl Model for TraceName {
     ghost view = { λ a. a.0 };
 }
 
-impl TraceName {
+impl NamedFile {
     /// This name.
-    pub(crate) fn new(name: &str) -> TraceName
+    pub(crate) fn new(name: &str) -> NamedFile
         requires { length name.now ≤ 255 }
         ensures { result ≡ name.now }
     {
-        TraceName(FileName::new(name))
+        NamedFile(FileName::new(name))
     }
 
     /// The name as a text.
@@ -38,21 +38,21 @@ impl TraceName {
     }
 }
 
-impl PartialEq for TraceName {
+impl PartialEq for NamedFile {
     ghost eq = { bytes_eq };
 
     ghost laws = { Prim.search (comparing, rules) };
 
-    fn eq(&self, other: &TraceName) -> bool {
+    fn eq(&self, other: &NamedFile) -> bool {
         self.as_str() == other.as_str()
     }
 }
 
-impl Eq for TraceName {
+impl Eq for NamedFile {
     ghost laws = { Prim.search (comparing, rules) };
 }
 
-impl Hash for TraceName {
+impl Hash for NamedFile {
     ghost use Rattle.std.specs.Hash as fed;
 
     ghost hash_input = { λ k. fed.str k };
