@@ -39,4 +39,5 @@ pub mod NoRoomTwice
 pub mod AllChanges
 pub mod NearMisses
 pub mod SideBySide
+pub mod Office
 pub mod MadeMisses

@@ -19,7 +19,7 @@ pub use forwarding::{
     thresholds, two_vifs_on_a_device, vif_added_later,
 };
 pub use lanes::{full_settle, nothing_happens, old_looks, two_lanes};
-pub use made::{lanes_side_by_side, made_near_misses, records_as_asked, side_by_side};
+pub use made::{lanes_side_by_side, made_near_misses, office_made, records_as_asked, side_by_side};
 pub use near_misses::{
     control_near_misses, ending_near_misses, fate_near_misses, forwarding_near_misses,
     lively_near_misses, place_near_misses, report_near_misses, waiting_near_misses,

@@ -8,8 +8,10 @@ ghost use Rattle.mr_load.specs.Made.{Made, as_asked};
 ghost use Rattle.mr_model.specs.Legal.{IsLegal};
 ghost use Rattle.mr_model.specs.declared.request.Request.TheVariants.{Init, Unknown, BadLength};
 ghost use Rattle.mr_rows.specs.MadeMisses as misses;
+ghost use Rattle.mr_rows.specs.Office as office;
 ghost use Rattle.mr_rows.specs.SideBySide as beside;
 ghost use Rattle.mr_scenario.specs.declared.scenario.Script.TheVariants as script;
+ghost use Rattle.smc_daemon.specs.Worked.{files as office_files, history as office_history};
 
 /// Two lanes and two daemons stand beside each other in two phases. The history is legal and has what the scenario asks:
 /// a daemon asks for another table, which is an unknown option, a lane's packets are counted, and an item that is no
@@ -33,6 +35,12 @@ pub fn made_near_misses()
     ensures lines_exchanged { Made beside.files beside.scenario misses.lines_exchanged → ⊥ }
     ensures third_lane { Made beside.files beside.scenario misses.third_lane → ⊥ }
     ensures third_daemon { Made beside.files beside.scenario misses.third_daemon → ⊥ }
+{}
+
+/// An office whose first daemon has a routing machine: the daemon starts it beside another daemon, a lane sends a packet
+/// that has no route, and the machine polls and learns its route. The history has what the scenario asks.
+pub fn office_made()
+    ensures { Made office_files office.scenario office_history }
 {}
 
 /// Each lane of that scenario has its packets in one list, with their phases and the numbers of their items.

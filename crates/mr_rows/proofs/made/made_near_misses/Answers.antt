@@ -1,5 +1,5 @@
 -- Each near miss breaks one fact of one phase, which computing refutes.
-use Rattle.std.proofs.Common.{rules, ◌≡◌, true, List, [], arith}
+use Rattle.std.proofs.Common.{rules, ◌≡◌, true, List, [], refl, arith}
 use Rattle.std.specs.List.{AllByRecursion, list_any}
 use Rattle.mr_base.specs.Heads.{cause_in}
 use Rattle.mr_load.specs.Callers.{IsCalled}
@@ -12,7 +12,7 @@ use Rattle.mr_rows.proofs.MadeParts.{Parts, before_end, behind_end, made_parts}
 use Rattle.mr_rows.proofs.made.made_near_misses.Goals as goal
 
 parts : (h : List Entry) → Made files scenario h → Parts files scenario [] scenario.phases h
-parts h m = made_parts files scenario [] scenario.phases h m
+parts h m = made_parts files scenario [] scenario.phases h m.phases
 
 behind_the_last : behind_end (behind_end misses.behind_the_last) ≡ [] → ⊥
 unfolding cause_in
@@ -54,14 +54,14 @@ unfolding cause_in
 line_missing = search rules
 
 pub returns-clause-line_missing : goal.returns-clause-line_missing
-returns-clause-line_missing c m = line_missing ((parts misses.line_missing m).1.daemons 2 (omega arith) (omega arith))
+returns-clause-line_missing c m = line_missing ((parts misses.line_missing m).1.daemons 2 (omega arith) (omega arith) refl)
 
 lines_exchanged : asked 1 (before_end misses.lines_exchanged) ≡ to_ask 1 first_phase → ⊥
 unfolding cause_in
 lines_exchanged = search rules
 
 pub returns-clause-lines_exchanged : goal.returns-clause-lines_exchanged
-returns-clause-lines_exchanged c m = lines_exchanged ((parts misses.lines_exchanged m).1.daemons 1 (omega arith) (omega arith))
+returns-clause-lines_exchanged c m = lines_exchanged ((parts misses.lines_exchanged m).1.daemons 1 (omega arith) (omega arith) refl)
 
 third_lane : AllByRecursion (IsCalled scenario) (before_end misses.third_lane) → ⊥
 unfolding cause_in
