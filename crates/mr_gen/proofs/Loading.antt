@@ -20,8 +20,10 @@ use Rattle.mr_load.specs.declared.loading.Loaded.{Loaded}
 use Rattle.mr_load.proofs.Rows.{all_append, all_items_append, all_one}
 use Rattle.mr_model.specs.declared.request.Request.{Request}
 use Rattle.mr_model.specs.declared.request.Request.TheVariants.{Init}
-use Rattle.mr_scenario.specs.Fits.{Fits, IsAsked, IsItem, packets_in as packets_of_line, packets_of}
+use Rattle.mr_scenario.specs.Fits.{Fits, IsAsked, IsItem, SuitsDaemon, packets_in as packets_of_line, packets_of}
+use Rattle.mr_scenario.specs.declared.scenario.DaemonKind.TheVariants.{Admin}
 use Rattle.mr_scenario.specs.declared.scenario.Item.{Item}
+use Rattle.mr_scenario.specs.declared.scenario.ScriptLine.{ScriptLine}
 use Rattle.std.proofs.lemmas.List.Sums.{sum_by-append, sum_by-cons}
 
 -- how many items they are
@@ -62,17 +64,14 @@ all_lines lanes seed packets a (suc k) least most =
     (lane_lines lanes a (words_of seed a packets) least (omega (arith, most)))
     (all_lines lanes seed packets (a + 1) k (omega arith) (omega (arith, most)))
 
--- each line is of the one daemon
-asked_by : (r : Request) → IsAsked 1 (asks r)
-asked_by r = record { least = omega arith; most = omega arith }
+-- each line is of the one daemon, and asks for something
+all_asked : (P : ScriptLine → Type 0) → ((r : Request) → P (asks r)) → (f : ℕ → Request) (a k : ℕ) → AllByRecursion P (map (λ i. asks (f i)) (from_on a k))
+all_asked P each f a zero = tt
+all_asked P each f a (suc k) = (each (f a), all_asked P each f (a + 1) k)
 
-all_asked : (f : ℕ → Request) (a k : ℕ) → AllByRecursion (IsAsked 1) (map (λ i. asks (f i)) (from_on a k))
-all_asked f a zero = tt
-all_asked f a (suc k) = (asked_by (f a), all_asked f (a + 1) k)
-
-script_asked : AllByRecursion (IsAsked 1) script_lines
-script_asked =
-    (asked_by Init, all_append (IsAsked 1) (map (λ i. asks (add_vif i)) (from_on 0 4)) (map (λ k. asks (add_entry k)) (from_on 0 64)) (all_asked add_vif 0 4) (all_asked add_entry 0 64))
+script_all : (P : ScriptLine → Type 0) → ((r : Request) → P (asks r)) → AllByRecursion P script_lines
+script_all P each =
+    (each Init, all_append P (map (λ i. asks (add_vif i)) (from_on 0 4)) (map (λ k. asks (add_entry k)) (from_on 0 64)) (all_asked P each add_vif 0 4) (all_asked P each add_entry 0 64))
 
 -- how many packets the lines give by themselves
 
@@ -104,11 +103,13 @@ fits seed lanes packets few most = record {
   most_lanes = few;
   admins = refl;
   most_daemons = omega arith;
+  confs = (tt, tt);
   devices = refl;
   most_devices = omega arith;
   names = (refl, (refl, (refl, (refl, tt))));
   items = (tt, (all_lines lanes seed packets 1 lanes (omega arith) (omega arith), tt));
-  script = (script_asked, (tt, tt));
+  script = (script_all (IsAsked 1) (λ r. record { least = omega arith; most = omega arith }), (tt, tt));
+  machine_lines = (script_all (SuitsDaemon (Admin ∷ [])) (λ r. λ _. tt), (tt, tt));
   most_packets = omega (arith, packets_all seed lanes packets, most);
 }
 
@@ -121,6 +122,7 @@ loads files seed lanes packets l few most is dealt = record {
   lanes = rw is (dealt.lanes ∙ sym (map_same (lane_of files (generated seed lanes packets)) (lane_dealt seed packets) 1 lanes (lane_given files seed lanes packets)));
   skips = rw is (dealt.skips ∙ sym (flat_none (λ lane. numbered skip_of (contents_of files) lane 1 (items_in (generated seed lanes packets).phases)) 1 lanes (skips_given files seed lanes packets)));
   skip_devs = rw is (dealt.skip_devs ∙ sym (flat_none (λ lane. numbered skip_dev (contents_of files) lane 1 (items_in (generated seed lanes packets).phases)) 1 lanes (devs_given files seed lanes packets)));
+  machines = rw is dealt.machines;
 }
   where
     counts : map (packets_in files (generated seed lanes packets)) (one_to lanes) ≡ replicate lanes packets

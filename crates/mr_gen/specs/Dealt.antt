@@ -1,5 +1,5 @@
 -- The packets that a lane is given for the words of its generator.
-use Rattle.std.specs.Prelude.{◌≡◌, ℕ, ◌+◌, ◌%◌, List, [], ◌∷◌, map, replicate}
+use Rattle.std.specs.Prelude.{◌≡◌, ℕ, ◌+◌, ◌%◌, None, List, [], ◌∷◌, map, replicate}
 use Rattle.std.specs.List.{AllByRecursion}
 use Rattle.mr_gen.specs.declared.routes.TheConstants.{ENTRIES}
 use Rattle.mr_gen.specs.Entries.{packet_of, parent_of}
@@ -38,3 +38,4 @@ pub record IsDealt (seed many packets : ℕ) (l : Loaded) : Type 0 where
   pub lanes : l.lanes ≡ map (lane_dealt seed packets) (one_to many)
   pub skips : l.skips ≡ []
   pub skip_devs : l.skip_devs ≡ []
+  pub machines : l.machines ≡ None ∷ []

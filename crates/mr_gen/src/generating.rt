@@ -1,6 +1,6 @@
 //! The scenario that a seed makes.
 
-ghost use Rattle.std.specs.Prelude.{◌≡◌, ◌*◌, ◌<◌, ◌≤◌, ◌^◌, ◌∷◌, [], replicate, true, map, IfOk};
+ghost use Rattle.std.specs.Prelude.{◌≡◌, ◌*◌, ◌<◌, ◌≤◌, ◌^◌, ◌∷◌, [], replicate, true, None, map, IfOk};
 ghost use Rattle.mr_base.specs.Outside.{Files};
 ghost use Rattle.mr_base.specs.declared.limits.TheConstants.{MOST_ITEMS, MOST_LANES};
 ghost use Rattle.mr_gen.specs.Entries.{devices};
@@ -17,6 +17,7 @@ use mr_base::{DEFAULT_CONTROLS, DEFAULT_ENTRIES, DEFAULT_UNRESOLVED, Device, Lis
 use mr_load::Loaded;
 use mr_model::Limits;
 use mr_scenario::{DaemonKind, Item, Named, Phase, Scenario};
+use smc_core::Smc;
 use std::alloc::{AllocError, Global};
 
 /// The phases.
@@ -84,6 +85,15 @@ fn daemons(alloc: Global) -> Result<Vec<DaemonKind>, AllocError>
     Ok(all)
 }
 
+/// The one daemon has no routing machine.
+fn no_machines(alloc: Global) -> Result<Vec<Option<Smc>>, AllocError>
+    ensures { IfOk result (λ m. m.items ≡ None ∷ []) }
+{
+    let mut all = Vec::with_capacity(alloc, 1)?;
+    all.push(None)?;
+    Ok(all)
+}
+
 /// The scenario, put together.
 fn put_together(alloc: Global, seed: u64, lanes: u32, packets: u32) -> Result<Loaded, AllocError>
     requires seed { seed < 2 ^ 63 }
@@ -112,6 +122,7 @@ fn put_together(alloc: Global, seed: u64, lanes: u32, packets: u32) -> Result<Lo
         lanes: List(given),
         skips: List(Vec::new(alloc)),
         skip_devs: List(Vec::new(alloc)),
+        machines: List(no_machines(alloc)?),
     })
 }
 
