@@ -7,6 +7,7 @@ use Rattle.mr_load.specs.Made.{asked_in, sent_in}
 use Rattle.mr_model.specs.declared.entry.Entry.{Entry}
 use Rattle.mr_model.specs.declared.entry.Entry.TheVariants.{Call, Slow, Settle, Tick, Recv, EndPhase}
 use Rattle.mr_model.specs.Past.{is_end}
+use Rattle.smc_daemon.specs.Deeds.{deeds_in}
 
 shifted : (a b : ℕ) → (16 + a == 16 + b) ≡ false → (a == b) ≡ false
 shifted a b t = grind arith
@@ -28,6 +29,15 @@ asked_none d (Settle l records) t = refl
 asked_none d (Tick c ms) t = rw (shifted c.0 d t) refl
 asked_none d (Recv c message) t = rw (shifted c.0 d t) refl
 asked_none d EndPhase t = refl
+
+-- an entry of another caller is nothing that a daemon did
+pub deeds_none : (d : ℕ) (h : List Entry) (e : Entry) → (author e == 16 + d) ≡ false → deeds_in d h e ≡ []
+deeds_none d h (Call c request reply released) t = rw (shifted c.0 d t) refl
+deeds_none d h (Slow l index look flow o) t = refl
+deeds_none d h (Settle l records) t = refl
+deeds_none d h (Tick c ms) t = rw (shifted c.0 d t) refl
+deeds_none d h (Recv c message) t = rw (shifted c.0 d t) refl
+deeds_none d h EndPhase t = refl
 
 -- what entries have by f, which gives nothing of others' entries, is what the caller's own have
 pub flat_own : {A : Type 0} (f : Entry → List A) (n : ℕ) → ((e : Entry) → (author e == n) ≡ false → f e ≡ []) → (h : List Entry) → flat_map f (own n h) ≡ flat_map f h
