@@ -93,4 +93,4 @@ flows_are_sent files s h k m n e =
     same_by s BareSame
     (λ g x y h k b called same turn. one_same s x y (cc b) called same)
     (λ g x y h k b is. cc b)
-    h k [] e (sym (bare_turns h) ∙ ap turns e ∙ bare_turns k) (made_called files s s.phases [] h m) (made_same files s s.phases [] h k m n)
+    h k [] e (sym (bare_turns h) ∙ ap turns e ∙ bare_turns k) (made_called files s s.phases [] h m.phases) (made_same files s s.phases [] h k m.phases n.phases)

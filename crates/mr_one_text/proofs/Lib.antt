@@ -1,6 +1,9 @@
 pub mod Sending
 pub mod Saying
 pub mod Flows
+pub mod Playing
+pub mod Heard
+pub mod Driving
 pub mod Telling
 pub mod Decimals
 pub mod Frees

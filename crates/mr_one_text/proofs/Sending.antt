@@ -5,7 +5,7 @@ use Rattle.std.proofs.lemmas.List.Concat.{flat_map-append}
 use Rattle.std.specs.List.{AllByRecursion}
 use Rattle.std.specs.Prelude.{if◌then◌else◌}
 use Rattle.mr_base.specs.Outside.{Files}
-use Rattle.mr_load.specs.Callers.{IsCalled}
+use Rattle.mr_load.specs.Callers.{IsCalled, has_machine}
 use Rattle.mr_load.specs.Made.{sent_in, sent, asked_in, asked, PartOf, MadeFrom}
 use Rattle.mr_model.specs.declared.entry.Entry.{Entry}
 use Rattle.mr_model.specs.declared.entry.Entry.TheVariants.{Call, Slow, Settle, Tick, Recv, EndPhase}
@@ -14,15 +14,15 @@ use Rattle.mr_scenario.specs.declared.scenario.Item.{Item}
 use Rattle.mr_scenario.specs.declared.scenario.Phase.{Phase}
 use Rattle.mr_scenario.specs.declared.scenario.Scenario.{Scenario}
 
--- two histories with the same packets of each lane and the same calls of each daemon
+-- two histories with the same packets of each lane and the same calls of each daemon that has no routing machine
 pub record Same (s : Scenario) (h k : List Entry) : Type 0 where
   pub lanes : (lane : ℕ) → 1 ≤ lane → lane ≤ s.lanes → sent lane h ≡ sent lane k
-  pub daemons : (d : ℕ) → 1 ≤ d → d ≤ length s.daemons → asked d h ≡ asked d k
+  pub daemons : (d : ℕ) → 1 ≤ d → d ≤ length s.daemons → has_machine s d ≡ false → asked d h ≡ asked d k
 
 -- two entries likewise
 pub record SameIn (s : Scenario) (e f : Entry) : Type 0 where
   pub lanes : (lane : ℕ) → 1 ≤ lane → lane ≤ s.lanes → sent_in lane e ≡ sent_in lane f
-  pub daemons : (d : ℕ) → 1 ≤ d → d ≤ length s.daemons → asked_in d e ≡ asked_in d f
+  pub daemons : (d : ℕ) → 1 ≤ d → d ≤ length s.daemons → has_machine s d ≡ false → asked_in d e ≡ asked_in d f
 
 sent_split : (lane : ℕ) (part rest : List Entry) → sent lane (part ++ EndPhase ∷ rest) ≡ sent lane part ++ sent lane rest
 sent_split lane part rest = flat_map-append (sent_in lane) part (EndPhase ∷ rest)
@@ -34,7 +34,7 @@ pub made_same : (files : Files) (s : Scenario) (ps : List Phase) (before : List 
     → MadeFrom files s before ps h → MadeFrom files s before ps k → Same s h k
 made_same files s [] before h k m n = record {
   lanes = λ lane least most. ap (sent lane) (m ∙ sym n);
-  daemons = λ d least most. ap (asked d) (m ∙ sym n);
+  daemons = λ d least most none. ap (asked d) (m ∙ sym n);
 }
 made_same files s (p ∷ ps) before h k m n =
     let more : Same s m.1 n.1 = made_same files s ps (before ++ p.items) m.1 n.1 m.4 n.4 in
@@ -45,9 +45,9 @@ made_same files s (p ∷ ps) before h k m n =
           let front : sent lane m.0 ≡ sent lane n.0 = mine.lanes lane least most ∙ sym (other.lanes lane least most) in
           let behind : sent lane m.1 ≡ sent lane n.1 = more.lanes lane least most in
           ap (sent lane) m.2 ∙ sent_split lane m.0 m.1 ∙ (λ i. front i ++ behind i) ∙ sym (ap (sent lane) n.2 ∙ sent_split lane n.0 n.1);
-      daemons = λ d least most.
-          let front : asked d m.0 ≡ asked d n.0 = mine.daemons d least most ∙ sym (other.daemons d least most) in
-          let behind : asked d m.1 ≡ asked d n.1 = more.daemons d least most in
+      daemons = λ d least most none.
+          let front : asked d m.0 ≡ asked d n.0 = mine.daemons d least most none ∙ sym (other.daemons d least most none) in
+          let behind : asked d m.1 ≡ asked d n.1 = more.daemons d least most none in
           ap (asked d) m.2 ∙ asked_split d m.0 m.1 ∙ (λ i. front i ++ behind i) ∙ sym (ap (asked d) n.2 ∙ asked_split d n.0 n.1);
     }
 
@@ -117,10 +117,10 @@ pub split_same : (s : Scenario) (e f : Entry) (h k : List Entry) → turn_of e �
 split_same s e f h k t same =
     let lane_cut : (lane : ℕ) → 1 ≤ lane → lane ≤ s.lanes → (sent_in lane e ≡ sent_in lane f) × (sent lane h ≡ sent lane k) =
     λ lane least most. append_both (sent_in lane e) (sent_in lane f) (sent lane h) (sent lane k) (sends_are lane e ∙ ap (turn_sends lane) t ∙ sym (sends_are lane f)) (same.lanes lane least most) in
-    let daemon_cut : (d : ℕ) → 1 ≤ d → d ≤ length s.daemons → (asked_in d e ≡ asked_in d f) × (asked d h ≡ asked d k) =
-    λ d least most. append_both (asked_in d e) (asked_in d f) (asked d h) (asked d k) (asks_are d e ∙ ap (turn_asks d) t ∙ sym (asks_are d f)) (same.daemons d least most) in (
-      record { lanes = λ lane least most. (lane_cut lane least most).0; daemons = λ d least most. (daemon_cut d least most).0 },
-      record { lanes = λ lane least most. (lane_cut lane least most).1; daemons = λ d least most. (daemon_cut d least most).1 },
+    let daemon_cut : (d : ℕ) → 1 ≤ d → d ≤ length s.daemons → has_machine s d ≡ false → (asked_in d e ≡ asked_in d f) × (asked d h ≡ asked d k) =
+    λ d least most none. append_both (asked_in d e) (asked_in d f) (asked d h) (asked d k) (asks_are d e ∙ ap (turn_asks d) t ∙ sym (asks_are d f)) (same.daemons d least most none) in (
+      record { lanes = λ lane least most. (lane_cut lane least most).0; daemons = λ d least most none. (daemon_cut d least most none).0 },
+      record { lanes = λ lane least most. (lane_cut lane least most).1; daemons = λ d least most none. (daemon_cut d least most none).1 },
     )
 
 -- Where each two entries of one turn are the same in what goes before them, the histories are.

@@ -52,8 +52,8 @@ one_within files s h k t u fits few m n legal legal' e =
     let within : length h ≤ room limits = legal_has_room limits h legal in
     let words : map told h ≡ map told k = text_told (skips_of files s) h k t u e in
     let many : length h ≡ length k = sym (length-map h told) ∙ ap length words ∙ length-map k told in
-    let mine : TurnsFit h = turns_fit s limits [] h fits (omega (arith, within, few)) (made_called files s s.phases [] h m) legal in
-    let other : TurnsFit k = turns_fit s limits [] k fits (omega (arith, within, few, many)) (made_called files s s.phases [] k n) legal' in
+    let mine : TurnsFit h = turns_fit s limits [] h fits (omega (arith, within, few)) (made_called files s s.phases [] h m.phases) legal in
+    let other : TurnsFit k = turns_fit s limits [] k fits (omega (arith, within, few, many)) (made_called files s s.phases [] k n.phases) legal' in
     turns_tell files s h k m n legal legal' (turns_same h k mine other words)
 
 pub one_history : OneHistory
