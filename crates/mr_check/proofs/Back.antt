@@ -27,6 +27,8 @@ use Rattle.mr_text.specs.Walk.{walked}
 use Rattle.mr_text.specs.Whole.{first_lines}
 use Rattle.mr_text.proofs.TextLaws.{text_law}
 use Rattle.mr_text.specs.declared.history_text.HistoryText.{HistoryText}
+use Rattle.smc_core.specs.Machine.{Machine}
+use Rattle.smc_daemon.specs.Courses.{DrivesFrom}
 use Rattle.mr_check.specs.Callers.{bare, due_of_lane}
 use Rattle.mr_check.specs.Judging.{EntriesRight, entries_from, told}
 use Rattle.mr_check.specs.Laws.{RunIsRight, run_tail}
@@ -34,7 +36,8 @@ use Rattle.mr_check.proofs.Flowing.{entries_bare}
 use Rattle.mr_check.proofs.Law.{text_same}
 use Rattle.mr_check.proofs.Lists.{take_over}
 use Rattle.mr_check.proofs.Packets.{lane_is, lines_packets, packets_rise, SentRise}
-use Rattle.mr_check.proofs.Running.{Reached, all_ended, all_lanes, phases_right}
+use Rattle.mr_check.proofs.Machines.{has_names}
+use Rattle.mr_check.proofs.Running.{AllDrive, Reached, all_ended, all_lanes, phases_right}
 use Rattle.mr_check.proofs.Telling.{Found, HasFlow, all_found, each_found, told_again}
 
 -- all packets of a lane, from the lines
@@ -46,12 +49,12 @@ whole_lane files l is lane least most =
 
 found : (files : Files) (l : Loaded) → IsLoaded files l → (h : List Entry) → Made files l.scenario h → Found l h
 found files l is h made = λ lane least most.
-    let same : map sent_of (due_of_lane l lane) ≡ sent lane h = whole_lane files l is lane least most ∙ sym (all_lanes files l h made lane least most) in
+    let same : map sent_of (due_of_lane l lane) ≡ sent lane h = whole_lane files l is lane least most ∙ sym (all_lanes files l h made.phases lane least most) in
     let rise : SentRise 1 (map sent_of (due_of_lane l lane)) = subst (SentRise 1) (sym (whole_lane files l is lane least most)) (packets_rise files l (length l.scenario.phases) lane) in
     each_found lane (HasFlow (due_of_lane l lane)) h (subst (AllByRecursion (HasFlow (due_of_lane l lane))) same (all_found 1 (due_of_lane l lane) rise))
 
 none_reached : (files : Files) (l : Loaded) → Reached files l 0 []
-none_reached files l = record { ended = refl; lanes = λ lane least most. refl; daemons = λ d least most. refl }
+none_reached files l = record { ended = refl; lanes = λ lane least most. refl; daemons = λ d least most plain. refl; parts = refl }
 
 pub run_is_right : RunIsRight
 run_is_right files l h is run fits =
@@ -63,7 +66,10 @@ run_is_right files l h is run fits =
     ap walked (text_same (skips_of files s) (skips_of files s) h (map bare h) (run_tail files s h) (run_tail files s h) refl (sym (entries_bare 1 h)) refl)
     ∙ text_law (skips_of files s) (map bare h) (run_tail files s h) fits in
     let legal : LegalFrom l.limits [] h = subst (λ (x : Limits). LegalFrom x [] h) (sym is.limits) run.legal in
-    let ended : phases h ≡ length s.phases = all_ended files l [] s.phases [] h run.made ∙ omega arith in
+    let drives : AllDrive l h = λ d m has.
+    let its = has_names files l is d m has in
+    subst (λ (x : Machine). DrivesFrom d x [] s.phases h) its.is (run.made.machines d its.names its.kind) in
+    let ended : phases h ≡ length s.phases = all_ended files l [] s.phases [] h run.made.phases ∙ omega arith in
     let tails : tail_lines p.tail ≡ tail_lines (tail_of s.devices (ending l.limits (told l p))) =
     ap (λ (x : Limits). tail_lines (tail_of s.devices (ending x h))) (sym is.limits)
     ∙ ap (λ (k : List Entry). tail_lines (tail_of s.devices (ending l.limits k))) (sym again) in (
@@ -72,7 +78,7 @@ run_is_right files l h is run fits =
       λ n. record {
         skips = λ k within line. ap (λ (ks : List Skip). slice_get ks k) (sym is.skips);
         entries = subst (λ (x : List Entry). EntriesRight l [] (entries_from p) x n) (sym again)
-            (phases_right files l is s.phases 0 refl [] (none_reached files l) h run.made legal (entries_from p) n);
+            (phases_right files l is h drives s.phases 0 refl [] (none_reached files l) h refl run.made.phases legal (entries_from p) n);
         phases = λ line. ap phases again ∙ ended;
         tail = λ k within line. ap (λ (ls : List Line). slice_get ls k) tails;
       },

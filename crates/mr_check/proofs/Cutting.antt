@@ -1,14 +1,14 @@
 -- A history whose lines are right is legal, and what its callers did is what the phases that have ended ask.
-use Rattle.std.proofs.Common.{◌≡◌, ◌∙◌, ℕ, ◌+◌, ◌≤◌, ◌==◌, false, List, [], ◌∷◌, ◌++◌, length, take, refl, sym, ap, arith, append-nil, append_assoc, subst}
+use Rattle.std.proofs.Common.{◌≡◌, ◌∙◌, ℕ, ◌+◌, ◌≤◌, ◌==◌, false, Some, List, [], ◌∷◌, ◌++◌, length, take, refl, sym, ap, arith, append-nil, append_assoc, subst}
 use Rattle.std.proofs.lemmas.Grind.{flat_map-append}
 use Rattle.std.proofs.lemmas.List.{length-append, length-map}
 use Rattle.mr_base.specs.Outside.{Files}
-use Rattle.mr_base.specs.declared.numbers.DaemonNo.{DaemonNo}
 use Rattle.mr_base.specs.declared.numbers.LaneNo.{LaneNo}
 use Rattle.mr_authors.specs.Authors.{own}
 use Rattle.mr_callers.specs.Joining.{MadeSoFar}
 use Rattle.mr_callers.proofs.Doing.{own_append}
 use Rattle.mr_callers.proofs.Joined.{asked_own, joined, sent_own}
+use Rattle.mr_load.specs.Callers.{has_machine}
 use Rattle.mr_load.specs.Loading.{items_in, run_limits}
 use Rattle.mr_load.specs.Loads.{IsLoaded}
 use Rattle.mr_load.specs.Made.{Made, Sent, asked, asked_in, sent, sent_in, to_ask, to_send}
@@ -23,13 +23,17 @@ use Rattle.mr_model.specs.declared.limits.Limits.{Limits}
 use Rattle.mr_scenario.specs.declared.scenario.Phase.{Phase}
 use Rattle.mr_scenario.specs.declared.scenario.Script.{Script}
 use Rattle.mr_text.specs.Whole.{line_count}
-use Rattle.mr_check.specs.Callers.{lines_to, packets_to}
+use Rattle.smc_core.specs.Machine.{Machine}
+use Rattle.smc_daemon.specs.Courses.{DrivesFrom}
+use Rattle.smc_daemon.specs.Machines.{machine_of}
+use Rattle.mr_check.specs.Callers.{lines_to, machine_at, packets_to}
 use Rattle.mr_check.specs.Judging.{EntriesRight}
-use Rattle.mr_check.specs.Rules.{AsksNext, CanEnd, FirstLine, SendsNext, present}
-use Rattle.mr_check.proofs.Agreeing.{AllRight, daemons_many, entry_agrees, first_right, lanes_many}
+use Rattle.mr_check.specs.Rules.{CanEnd, FirstLine, SendsNext, present}
+use Rattle.mr_check.proofs.Agreeing.{AllRight, entry_agrees, first_right, lanes_many}
 use Rattle.mr_check.proofs.Lists.{at_place, behind_same, front_length, take_at, take_over}
-use Rattle.mr_check.proofs.Packets.{lines_more, lines_over, lines_packets, packets_are, packets_more, packets_over}
-use Rattle.mr_check.proofs.Sent.{asked_push, call_asks, recv_asks, sent_push, settle_sends, slow_sends, tick_asks}
+use Rattle.mr_check.proofs.Machines.{machine_is}
+use Rattle.mr_check.proofs.Packets.{lines_more, lines_packets, packets_are, packets_more, packets_over}
+use Rattle.mr_check.proofs.Sent.{asked_push, sent_push, settle_sends, slow_sends}
 
 -- A history is cut behind the last end of a phase.
 pub record Cut (files : Files) (l : Loaded) (g : List Entry) : Type 0 where
@@ -39,7 +43,8 @@ pub record Cut (files : Files) (l : Loaded) (g : List Entry) : Type 0 where
   pub made : MadeSoFar files l.scenario (take (phases g) l.scenario.phases) front
   pub no_end : own 0 part ≡ []
   pub lanes : (lane : ℕ) → 1 ≤ lane → lane ≤ l.scenario.lanes → sent lane front ≡ lines_packets files l (phases g) lane
-  pub daemons : (d : ℕ) → 1 ≤ d → d ≤ length l.scenario.daemons → asked d front ≡ lines_to l (phases g) d
+  pub daemons : (d : ℕ) → 1 ≤ d → d ≤ length l.scenario.daemons → has_machine l.scenario d ≡ false → asked d front ≡ lines_to l (phases g) d
+  pub machines : (d : ℕ) (m : Machine) → machine_at l d ≡ Some m → DrivesFrom d m [] (take (phases g) l.scenario.phases) front
   pub over : length l.scenario.phases ≤ phases g → part ≡ []
 
 pub begins : (files : Files) (l : Loaded) → Cut files l []
@@ -50,7 +55,8 @@ begins files l = record {
   made = refl;
   no_end = refl;
   lanes = λ lane least most. refl;
-  daemons = λ d least most. refl;
+  daemons = λ d least most none. refl;
+  machines = λ d m has. refl;
   over = λ less. refl;
 }
 
@@ -64,7 +70,8 @@ kept files l g e same none is_open c = record {
   made = subst (λ (k : ℕ). MadeSoFar files l.scenario (take k l.scenario.phases) c.front) (sym same) c.made;
   no_end = own_append 0 c.part (e ∷ []) ∙ rw (c.no_end, none) refl;
   lanes = λ lane least most. c.lanes lane least most ∙ ap (λ (k : ℕ). lines_packets files l k lane) (sym same);
-  daemons = λ d least most. c.daemons d least most ∙ ap (λ (k : ℕ). lines_to l k d) (sym same);
+  daemons = λ d least most plain. c.daemons d least most plain ∙ ap (λ (k : ℕ). lines_to l k d) (sym same);
+  machines = λ d m has. subst (λ (k : ℕ). DrivesFrom d m [] (take k l.scenario.phases) c.front) (sym same) (c.machines d m has);
   over = λ less. absurd (is_open (omega (arith, less, same)));
 }
 
@@ -81,17 +88,6 @@ lane_open files l is g lane e xs c next what some over =
     let now : List Sent = sent lane.0 (g ++ e ∷ []) in
     let more : now ≡ sent lane.0 g ++ xs = sent_push lane.0 g e ∙ ap (λ (ys : List Sent). sent lane.0 g ++ ys) what in
     omega (arith, ap length more, length-append (sent lane.0 g) xs, ap length done, ap length all, front_length now (packets_to l (present g) lane.0) next.next, some)
-
--- and so is a daemon that asks more
-daemon_open : (files : Files) (l : Loaded) → IsLoaded files l → (g : List Entry) (d : DaemonNo) (e : Entry) (x : Script) → Cut files l g → AsksNext l g d e → asked_in d.0 e ≡ x ∷ []
-    → length l.scenario.phases ≤ phases g → ⊥
-daemon_open files l is g d e x c next what over =
-    let most : d.0 ≤ length l.scenario.daemons = omega (arith, next.daemon_is.last, daemons_many files l is) in
-    let done : asked d.0 g ≡ lines_to l (phases g) d.0 = ap (asked d.0) (whole_front files l g c over) ∙ c.daemons d.0 next.daemon_is.first most in
-    let all : lines_to l (present g) d.0 ≡ lines_to l (phases g) d.0 = lines_over l (phases g) d.0 over in
-    let now : List Script = asked d.0 (g ++ e ∷ []) in
-    let more : now ≡ asked d.0 g ++ x ∷ [] = asked_push d.0 g e ∙ ap (λ (ys : List Script). asked d.0 g ++ ys) what in
-    omega (arith, ap length more, length-append (asked d.0 g) (x ∷ []), ap length done, ap length all, front_length now (lines_to l (present g) d.0) next.next)
 
 lane_author : (lane : LaneNo) → 1 ≤ lane.0 → (lane.0 == 0) ≡ false
 lane_author lane least = grind (arith, least)
@@ -116,11 +112,11 @@ ended files l is g legal ends c =
     ∙ behind_same (lines_packets files l k lane) (sent lane c.part) (to_send files lane (items_in (take k ps)) p) (sent lane g)
     (ap (λ (xs : List Sent). xs ++ sent lane c.part) (sym (c.lanes lane least most)) ∙ sym (flat_map-append (sent_in lane) c.front c.part) ∙ ap (sent lane) (sym c.splits))
     (lane_all lane least most ∙ packets_more files l k lane p at.1) in
-    let daemon_part : (d : ℕ) → 1 ≤ d → d ≤ length l.scenario.daemons → asked d (own (16 + d) c.part) ≡ to_ask d p = λ d least most.
+    let daemon_part : (d : ℕ) → 1 ≤ d → d ≤ length l.scenario.daemons → has_machine l.scenario d ≡ false → asked d (own (16 + d) c.part) ≡ to_ask d p = λ d least most plain.
     asked_own d c.part
     ∙ behind_same (lines_to l k d) (asked d c.part) (to_ask d p) (asked d g)
-    (ap (λ (xs : List Script). xs ++ asked d c.part) (sym (c.daemons d least most)) ∙ sym (flat_map-append (asked_in d) c.front c.part) ∙ ap (asked d) (sym c.splits))
-    (ends.daemons d least most ∙ lines_more l k d p at.1) in
+    (ap (λ (xs : List Script). xs ++ asked d c.part) (sym (c.daemons d least most plain)) ∙ sym (flat_map-append (asked_in d) c.front c.part) ∙ ap (asked d) (sym c.splits))
+    (ends.daemons d least most plain ∙ lines_more l k d p at.1) in
     let made : MadeSoFar files l.scenario (take k ps ++ p ∷ []) (c.front ++ c.part ++ EndPhase ∷ []) =
     joined files l.scenario (take k ps) p c.front c.part (λ n. own n c.part) is.fits whole c.made (λ n. own_append n c.front c.part)
     (record { no_end = c.no_end; lanes = lane_part; daemons = daemon_part }) in
@@ -134,7 +130,8 @@ ended files l is g legal ends c =
       made = subst (λ (n : ℕ). MadeSoFar files l.scenario (take n ps) (g ++ EndPhase ∷ [])) (sym next) now;
       no_end = refl;
       lanes = λ lane least most. sent_push lane g EndPhase ∙ append-nil (sent lane g) ∙ lane_all lane least most ∙ ap (λ (n : ℕ). lines_packets files l n lane) (sym next);
-      daemons = λ d least most. asked_push d g EndPhase ∙ append-nil (asked d g) ∙ ends.daemons d least most ∙ ap (λ (n : ℕ). lines_to l n d) (sym next);
+      daemons = λ d least most plain. asked_push d g EndPhase ∙ append-nil (asked d g) ∙ ends.daemons d least most plain ∙ ap (λ (n : ℕ). lines_to l n d) (sym next);
+      machines = λ d m has. subst (λ (n : ℕ). DrivesFrom d m [] (take n ps) (g ++ EndPhase ∷ [])) (sym next) (ends.machines d m has);
       over = λ less. refl;
     }
 
@@ -142,13 +139,13 @@ ended files l is g legal ends c =
 cut_next : (files : Files) (l : Loaded) → IsLoaded files l → (g : List Entry) (e : Entry) → IsLegal l.limits g → FirstLine l g e → Cut files l g → Cut files l (g ++ e ∷ [])
 cut_next files l is g (Call d r reply released) legal line c =
     kept files l g (Call d r reply released) (omega (arith, phases_push g (Call d r reply released))) (rw (daemon_author d.0) refl)
-    (daemon_open files l is g d (Call d r reply released) _ c line.next (call_asks d r reply released)) c
+    (λ over. omega (arith, over, line.next.is_open)) c
 cut_next files l is g (Tick d ms) legal line c =
     kept files l g (Tick d ms) (omega (arith, phases_push g (Tick d ms))) (rw (daemon_author d.0) refl)
-    (daemon_open files l is g d (Tick d ms) _ c line.next (tick_asks d ms)) c
+    (λ over. omega (arith, over, line.next.is_open)) c
 cut_next files l is g (Recv d message) legal line c =
     kept files l g (Recv d message) (omega (arith, phases_push g (Recv d message))) (rw (daemon_author d.0) refl)
-    (daemon_open files l is g d (Recv d message) _ c line.next (recv_asks d message)) c
+    (λ over. omega (arith, over, line.next.is_open)) c
 cut_next files l is g (Slow lane index look flow o) legal line c =
     kept files l g (Slow lane index look flow o) (omega (arith, phases_push g (Slow lane index look flow o))) (rw (lane_author lane line.next.lane_is.first) refl)
     (lane_open files l is g lane (Slow lane index look flow o) _ c line.next (slow_sends lane index look flow o) (omega arith)) c
@@ -173,8 +170,14 @@ all_sound files l is g first (e ∷ h) right s =
     (all_sound files l is (g ++ e ∷ []) (first + line_count e) h (λ n. (right n).1) (record { legal = legal; cut = cut }))
 
 -- where all phases have ended nothing stands behind the last
-pub made_all : (files : Files) (l : Loaded) (h : List Entry) → Cut files l h → phases h ≡ length l.scenario.phases → Made files l.scenario h
-made_all files l h c all =
+pub made_all : (files : Files) (l : Loaded) → IsLoaded files l → (h : List Entry) → Cut files l h → phases h ≡ length l.scenario.phases → Made files l.scenario h
+made_all files l is h c all =
     let whole : c.front ≡ h = sym (whole_front files l h c (omega (arith, all))) in
     let every : take (phases h) l.scenario.phases ≡ l.scenario.phases = take_over l.scenario.phases (phases h) (omega (arith, all)) in
-    subst (λ (x : List Entry). Made files l.scenario x) whole (subst (λ (qs : List Phase). MadeSoFar files l.scenario qs c.front) every c.made)
+    record {
+      phases = subst (λ (x : List Entry). MadeSoFar files l.scenario l.scenario.phases x) whole (subst (λ (qs : List Phase). MadeSoFar files l.scenario qs c.front) every c.made);
+      machines = λ d names kind.
+          let first = machine_of files l.scenario names in
+          subst (λ (x : List Entry). DrivesFrom d first [] l.scenario.phases x) whole
+          (subst (λ (qs : List Phase). DrivesFrom d first [] qs c.front) every (c.machines d first (machine_is files l is d names kind)));
+    }

@@ -57,6 +57,6 @@ right_is_run files l bytes p is read right =
     same_upto (tail_lines p.tail) (tail_lines (tail_of s.devices (ending l.limits h))) (λ k within. (right (tail_from p + k)).tail k within refl)
     ∙ ap (λ (x : Limits). tail_lines (tail_of s.devices (ending x h))) is.limits in
     let law = read_law bytes p read in (
-      record { legal = subst (λ (x : Limits). IsLegal x h) is.limits sound.legal; made = made_all files l h sound.cut all },
+      record { legal = subst (λ (x : Limits). IsLegal x h) is.limits sound.legal; made = made_all files l is h sound.cut all },
       law.1 ∙ text_same p.skips (skips_of files s) p.entries h p.tail (tail_of s.devices (ending (run_limits files s) h)) skips (sym (entries_flow l 1 p.entries)) ends,
     )

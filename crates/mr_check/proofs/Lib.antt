@@ -1,4 +1,5 @@
 pub mod Lists
+pub mod Machines
 pub mod Packets
 pub mod Sent
 pub mod Agreeing

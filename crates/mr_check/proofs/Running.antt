@@ -4,13 +4,14 @@ use Rattle.std.proofs.lemmas.Grind.{flat_map-append}
 use Rattle.std.specs.List.{AllByRecursion, list_any}
 use Rattle.std.specs.Prelude.{IfSome, ◌||◌, if◌then◌else◌, slice_get}
 use Rattle.mr_base.specs.Outside.{Files}
-use Rattle.mr_load.specs.Callers.{IsCalled}
+use Rattle.mr_base.specs.declared.numbers.DaemonNo.{DaemonNo}
+use Rattle.mr_load.specs.Callers.{IsCalled, IsOneTo, has_machine}
 use Rattle.mr_load.specs.Loading.{items_in}
 use Rattle.mr_load.specs.Loads.{IsLoaded}
 use Rattle.mr_load.specs.Made.{MadeFrom, PartOf, Sent, asked, asked_in, sent, sent_in, to_ask, to_send}
 use Rattle.mr_load.specs.declared.loading.Loaded.{Loaded}
 use Rattle.mr_model.proofs.PushingLists.{phases_push}
-use Rattle.mr_model.specs.Legal.{Agrees, LegalFrom, RecordsAgree, least_look}
+use Rattle.mr_model.specs.Legal.{Agrees, IsDaemon, LegalFrom, RecordsAgree, least_look}
 use Rattle.mr_model.specs.Past.{is_end, phases}
 use Rattle.mr_model.specs.declared.entry.Entry.{Entry}
 use Rattle.mr_model.specs.declared.entry.Entry.TheVariants.{Call, Slow, Settle, Tick, Recv, EndPhase}
@@ -22,10 +23,13 @@ use Rattle.mr_scenario.specs.declared.scenario.Item.{Item}
 use Rattle.mr_scenario.specs.declared.scenario.Phase.{Phase}
 use Rattle.mr_scenario.specs.declared.scenario.Script.{Script}
 use Rattle.mr_text.specs.Whole.{line_count}
-use Rattle.mr_check.specs.Callers.{lines_to, packets_to}
+use Rattle.smc_core.specs.Machine.{Machine}
+use Rattle.smc_daemon.specs.Courses.{DrivesFrom}
+use Rattle.mr_check.specs.Callers.{lines_to, machine_at, packets_to}
 use Rattle.mr_check.specs.Judging.{EntriesRight, EntryRight}
-use Rattle.mr_check.specs.Rules.{CanEnd, EndsRight, FirstLine, FurtherLine, HasLook, HasSize, IsFront, IsMachines, IsNext, RecordLooks}
+use Rattle.mr_check.specs.Rules.{AsksNext, CanEnd, DrivesUpTo, EndsRight, FirstLine, FurtherLine, HasLook, HasSize, IsFront, IsMachines, IsNext, RecordLooks}
 use Rattle.mr_check.proofs.Lists.{take_at}
+use Rattle.mr_check.proofs.Machines.{InParts, drives_front, parts_push}
 use Rattle.mr_check.proofs.Packets.{lines_more, lines_packets, packets_are, packets_more}
 use Rattle.mr_check.proofs.Sent.{asked_push, sent_push}
 
@@ -69,43 +73,57 @@ asks_front l front a b e k d p at before its =
 pub record Reached (files : Files) (l : Loaded) (k : ℕ) (g : List Entry) : Type 0 where
   pub ended : phases g ≡ k
   pub lanes : (lane : ℕ) → 1 ≤ lane → lane ≤ l.scenario.lanes → sent lane g ≡ lines_packets files l k lane
-  pub daemons : (d : ℕ) → 1 ≤ d → d ≤ length l.scenario.daemons → asked d g ≡ lines_to l k d
+  pub daemons : (d : ℕ) → 1 ≤ d → d ≤ length l.scenario.daemons → has_machine l.scenario d ≡ false → asked d g ≡ lines_to l k d
+  pub parts : InParts k g
+
+-- Each daemon with a routing machine did just what it does, in the whole history.
+abbrev pub AllDrive : Loaded → List Entry → Type 0
+AllDrive l whole = (d : ℕ) (m : Machine) → machine_at l d ≡ Some m → DrivesFrom d m [] l.scenario.phases whole
+
+-- and in the phases up to this one, which stand first in it
+drives_up_to : (l : Loaded) (whole g front behind : List Entry) (k d : ℕ) (m : Machine) → AllDrive l whole → machine_at l d ≡ Some m → phases g ≡ k → whole ≡ front ++ behind → InParts (suc k) front → DrivesUpTo l g d m front
+drives_up_to l whole g front behind k d m all has same splits parts =
+    let next : suc k ≡ phases g + 1 = omega (arith, same) in
+    subst (λ (n : ℕ). DrivesFrom d m [] (take n l.scenario.phases) front) next (drives_front (suc k) d m [] l.scenario.phases whole front behind splits parts (all d m has))
+
+-- an entry of a daemon in a phase
+daemon_next : (files : Files) (l : Loaded) (whole front a b rest : List Entry) (e : Entry) (d : DaemonNo) (k : ℕ) (p : Phase) → slice_get l.scenario.phases k ≡ Some p → k < length l.scenario.phases → AllDrive l whole
+    → whole ≡ (front ++ a) ++ e ∷ (b ++ EndPhase ∷ rest) → Reached files l k front → PartOf files l.scenario (items_in (take k l.scenario.phases)) p (a ++ e ∷ b) → phases (front ++ a) ≡ k
+    → IsOneTo (length l.scenario.daemons) d.0 → IsDaemon l.limits d → AsksNext l (front ++ a) d e
+daemon_next files l whole front a b rest e d k p at less all splits r0 part same called daemon = record {
+  daemon_is = daemon;
+  is_open = omega (arith, same, less);
+  next = λ plain. subst (λ (n : ℕ). IsFront (asked d.0 ((front ++ a) ++ e ∷ [])) (lines_to l (n + 1) d.0)) (sym same)
+      (asks_front l front a b e k d.0 p at (r0.daemons d.0 called.first called.last plain) (part.daemons d.0 called.first called.last plain));
+  machine = λ m has. (
+    b ++ EndPhase ∷ [],
+    drives_up_to l whole (front ++ a) ((front ++ a) ++ e ∷ (b ++ EndPhase ∷ [])) rest k d.0 m all has same
+        (splits ∙ sym (append_assoc (front ++ a) (e ∷ (b ++ EndPhase ∷ [])) rest ∙ ap (λ (x : List Entry). (front ++ a) ++ e ∷ x) (append_assoc b (EndPhase ∷ []) rest)))
+        (subst (InParts (suc k)) (append_assoc front (a ++ e ∷ b) (EndPhase ∷ []) ∙ ap (λ (x : List Entry). front ++ x) (append_assoc a (e ∷ b) (EndPhase ∷ [])) ∙ sym (append_assoc front a (e ∷ (b ++ EndPhase ∷ []))))
+        (parts_push k front (a ++ e ∷ b) r0.parts part.no_end)),
+  );
+}
 
 -- an entry in a phase is the next one of its caller
-is_next : (files : Files) (l : Loaded) → IsLoaded files l → (front a b : List Entry) (e : Entry) (k : ℕ) (p : Phase) → slice_get l.scenario.phases k ≡ Some p
-    → Reached files l k front → PartOf files l.scenario (items_in (take k l.scenario.phases)) p (a ++ e ∷ b) → phases (front ++ a) ≡ k → IsCalled l.scenario e
+is_next : (files : Files) (l : Loaded) → IsLoaded files l → (whole front a b rest : List Entry) (e : Entry) (k : ℕ) (p : Phase) → slice_get l.scenario.phases k ≡ Some p → k < length l.scenario.phases
+    → AllDrive l whole → whole ≡ (front ++ a) ++ e ∷ (b ++ EndPhase ∷ rest) → Reached files l k front → PartOf files l.scenario (items_in (take k l.scenario.phases)) p (a ++ e ∷ b) → phases (front ++ a) ≡ k → IsCalled l.scenario e
     → Agrees l.limits (front ++ a) e → IsNext l (front ++ a) e
-is_next files l is front a b (Call d r reply released) k p at r0 part same called agrees =
-    record {
-      daemon_is = agrees.control.daemon;
-      next = subst (λ (n : ℕ). IsFront (asked d.0 ((front ++ a) ++ Call d r reply released ∷ [])) (lines_to l (n + 1) d.0)) (sym same)
-          (asks_front l front a b (Call d r reply released) k d.0 p at (r0.daemons d.0 called.first called.last) (part.daemons d.0 called.first called.last));
-    }
-is_next files l is front a b (Tick d ms) k p at r0 part same called agrees =
-    record {
-      daemon_is = agrees.daemon;
-      next = subst (λ (n : ℕ). IsFront (asked d.0 ((front ++ a) ++ Tick d ms ∷ [])) (lines_to l (n + 1) d.0)) (sym same)
-          (asks_front l front a b (Tick d ms) k d.0 p at (r0.daemons d.0 called.first called.last) (part.daemons d.0 called.first called.last));
-    }
-is_next files l is front a b (Recv d message) k p at r0 part same called agrees =
-    record {
-      daemon_is = agrees.control.daemon;
-      next = subst (λ (n : ℕ). IsFront (asked d.0 ((front ++ a) ++ Recv d message ∷ [])) (lines_to l (n + 1) d.0)) (sym same)
-          (asks_front l front a b (Recv d message) k d.0 p at (r0.daemons d.0 called.first called.last) (part.daemons d.0 called.first called.last));
-    }
-is_next files l is front a b (Slow lane index look flow o) k p at r0 part same called agrees =
+is_next files l is whole front a b rest (Call d r reply released) k p at less all splits r0 part same called agrees = daemon_next files l whole front a b rest (Call d r reply released) d k p at less all splits r0 part same called agrees.control.daemon
+is_next files l is whole front a b rest (Tick d ms) k p at less all splits r0 part same called agrees = daemon_next files l whole front a b rest (Tick d ms) d k p at less all splits r0 part same called agrees.daemon
+is_next files l is whole front a b rest (Recv d message) k p at less all splits r0 part same called agrees = daemon_next files l whole front a b rest (Recv d message) d k p at less all splits r0 part same called agrees.control.daemon
+is_next files l is whole front a b rest (Slow lane index look flow o) k p at less all splits r0 part same called agrees =
     record {
       lane_is = agrees.lane_is;
       next = subst (λ (n : ℕ). IsFront (sent lane.0 ((front ++ a) ++ Slow lane index look flow o ∷ [])) (packets_to l (n + 1) lane.0)) (sym same)
           (sends_front files l is front a b (Slow lane index look flow o) k lane.0 p called.first called.last at (r0.lanes lane.0 called.first called.last) (part.lanes lane.0 called.first called.last));
     }
-is_next files l is front a b (Settle lane records) k p at r0 part same called agrees =
+is_next files l is whole front a b rest (Settle lane records) k p at less all splits r0 part same called agrees =
     record {
       lane_is = agrees.lane_is;
       next = subst (λ (n : ℕ). IsFront (sent lane.0 ((front ++ a) ++ Settle lane records ∷ [])) (packets_to l (n + 1) lane.0)) (sym same)
           (sends_front files l is front a b (Settle lane records) k lane.0 p called.first called.last at (r0.lanes lane.0 called.first called.last) (part.lanes lane.0 called.first called.last));
     }
-is_next files l is front a b EndPhase k p at r0 part same called agrees = tt
+is_next files l is whole front a b rest EndPhase k p at less all splits r0 part same called agrees = tt
 
 has_size : (limits : Limits) (g : List Entry) (e : Entry) → Agrees limits g e → HasSize e
 has_size limits g (Settle lane records) agrees = (agrees.some, agrees.most)
@@ -172,19 +190,23 @@ legal_behind limits g [] b legal = subst (λ (x : List Entry). LegalFrom limits 
 legal_behind limits g (e ∷ a) b legal = subst (λ (x : List Entry). LegalFrom limits x b) (append_assoc g (e ∷ []) a) (legal_behind limits (g ++ e ∷ []) a b legal.1)
 
 -- the entries of a phase, of which those of a stand before
-in_part : (files : Files) (l : Loaded) → IsLoaded files l → (front part rest : List Entry) (k n : ℕ) (p : Phase) → slice_get l.scenario.phases k ≡ Some p → Reached files l k front
+in_part : (files : Files) (l : Loaded) → IsLoaded files l → (every front part rest : List Entry) (k n : ℕ) (p : Phase) → slice_get l.scenario.phases k ≡ Some p → k < length l.scenario.phases
+    → AllDrive l every → every ≡ (front ++ part) ++ EndPhase ∷ rest → Reached files l k front
     → PartOf files l.scenario (items_in (take k l.scenario.phases)) p part → ((first : ℕ) → EntriesRight l (front ++ part) first (EndPhase ∷ rest) n)
     → (b a : List Entry) → part ≡ a ++ b → LegalFrom l.limits (front ++ a) (b ++ EndPhase ∷ rest) → phases (front ++ a) ≡ k → AllByRecursion (IsCalled l.scenario) b → list_any is_end b ≡ false
     → (first : ℕ) → EntriesRight l (front ++ a) first (b ++ EndPhase ∷ rest) n
-in_part files l is front part rest k n p at r0 its behind [] a whole legal same called none first =
+in_part files l is every front part rest k n p at less all is_every r0 its behind [] a whole legal same called none first =
     subst (λ (x : List Entry). EntriesRight l (front ++ x) first (EndPhase ∷ rest) n) (whole ∙ append-nil a) (behind first)
-in_part files l is front part rest k n p at r0 its behind (e ∷ b) a whole legal same called none first =
+in_part files l is every front part rest k n p at less all is_every r0 its behind (e ∷ b) a whole legal same called none first =
     let apart = neither (is_end e) (list_any is_end b) none in
     let now : PartOf files l.scenario (items_in (take k l.scenario.phases)) p (a ++ e ∷ b) = subst (PartOf files l.scenario (items_in (take k l.scenario.phases)) p) whole its in
+    let here : every ≡ (front ++ a) ++ e ∷ (b ++ EndPhase ∷ rest) =
+    is_every ∙ ap (λ (x : List Entry). (front ++ x) ++ EndPhase ∷ rest) whole ∙ append_assoc front (a ++ e ∷ b) (EndPhase ∷ rest)
+    ∙ ap (λ (x : List Entry). front ++ x) (append_assoc a (e ∷ b) (EndPhase ∷ rest)) ∙ sym (append_assoc front a (e ∷ (b ++ EndPhase ∷ rest))) in
     let step : phases ((front ++ a) ++ e ∷ []) ≡ k = phases_push (front ++ a) e ∙ ap (λ (x : Bool). phases (front ++ a) + (if x then 1 else 0)) apart.0 ∙ omega (arith, same) in
     let one : EntryRight l (front ++ a) first e n = record {
       first_line = λ line. record {
-        next = is_next files l is front a b e k p at r0 now same called.0 legal.0;
+        next = is_next files l is every front a b rest e k p at less all here r0 now same called.0 legal.0;
         size = has_size l.limits (front ++ a) e legal.0;
         machine = is_machines l.limits (front ++ a) e legal.0;
         look = has_look l.limits (front ++ a) e legal.0;
@@ -193,7 +215,7 @@ in_part files l is front part rest k n p at r0 its behind (e ∷ b) a whole lega
       further = λ i less line. further l (front ++ a) e legal.0 i;
     } in
     let more : EntriesRight l (front ++ (a ++ e ∷ [])) (first + line_count e) (b ++ EndPhase ∷ rest) n =
-    in_part files l is front part rest k n p at r0 its behind b (a ++ e ∷ []) (whole ∙ sym (append_assoc a (e ∷ []) b))
+    in_part files l is every front part rest k n p at less all is_every r0 its behind b (a ++ e ∷ []) (whole ∙ sym (append_assoc a (e ∷ []) b))
     (subst (λ (x : List Entry). LegalFrom l.limits x (b ++ EndPhase ∷ rest)) (append_assoc front a (e ∷ [])) legal.1)
     (subst (λ (x : List Entry). phases x ≡ k) (append_assoc front a (e ∷ [])) step) called.1 apart.1 (first + line_count e) in
     (one, subst (λ (x : List Entry). EntriesRight l x (first + line_count e) (b ++ EndPhase ∷ rest) n) (sym (append_assoc front a (e ∷ []))) more)
@@ -216,15 +238,15 @@ place_less (z ∷ xs) (suc k) x at = omega (arith, place_less xs k x at)
 reached_all : (files : Files) (l : Loaded) → IsLoaded files l → (g part : List Entry) (k : ℕ) (p : Phase) → slice_get l.scenario.phases k ≡ Some p → Reached files l k g
     → PartOf files l.scenario (items_in (take k l.scenario.phases)) p part
     → ((lane : ℕ) → 1 ≤ lane → lane ≤ l.scenario.lanes → sent lane (g ++ part) ≡ lines_packets files l (k + 1) lane)
-    × ((d : ℕ) → 1 ≤ d → d ≤ length l.scenario.daemons → asked d (g ++ part) ≡ lines_to l (k + 1) d)
+    × ((d : ℕ) → 1 ≤ d → d ≤ length l.scenario.daemons → has_machine l.scenario d ≡ false → asked d (g ++ part) ≡ lines_to l (k + 1) d)
 reached_all files l is g part k p at r0 its = (
   λ lane least most. flat_map-append (sent_in lane) g part
       ∙ ap (λ (xs : List Sent). xs ++ sent lane part) (r0.lanes lane least most)
       ∙ ap (λ (xs : List Sent). lines_packets files l k lane ++ xs) (its.lanes lane least most)
       ∙ sym (packets_more files l k lane p at),
-  λ d least most. flat_map-append (asked_in d) g part
-      ∙ ap (λ (xs : List Script). xs ++ asked d part) (r0.daemons d least most)
-      ∙ ap (λ (xs : List Script). lines_to l k d ++ xs) (its.daemons d least most)
+  λ d least most plain. flat_map-append (asked_in d) g part
+      ∙ ap (λ (xs : List Script). xs ++ asked d part) (r0.daemons d least most plain)
+      ∙ ap (λ (xs : List Script). lines_to l k d ++ xs) (its.daemons d least most plain)
       ∙ sym (lines_more l k d p at),
 )
 
@@ -233,20 +255,24 @@ items_more l k p at =
     sym (ap items_in (take_at l.scenario.phases k p at) ∙ flat_map-append (λ (q : Phase). q.items) (take k l.scenario.phases) (p ∷ [])
     ∙ ap (λ (xs : List Item). items_in (take k l.scenario.phases) ++ xs) (append-nil p.items))
 
-pub phases_right : (files : Files) (l : Loaded) → IsLoaded files l → (ps : List Phase) (k : ℕ) → drop k l.scenario.phases ≡ ps → (g : List Entry) → Reached files l k g
-    → (h : List Entry) → MadeFrom files l.scenario (items_in (take k l.scenario.phases)) ps h → LegalFrom l.limits g h → (first n : ℕ) → EntriesRight l g first h n
-phases_right files l is [] k left g r0 h made legal first n = subst (λ (x : List Entry). EntriesRight l g first x n) (sym made) tt
-phases_right files l is (p ∷ ps) k left g r0 h (part, rest, splits, its, made) legal first n =
+pub phases_right : (files : Files) (l : Loaded) → IsLoaded files l → (every : List Entry) → AllDrive l every → (ps : List Phase) (k : ℕ) → drop k l.scenario.phases ≡ ps → (g : List Entry) → Reached files l k g
+    → (h : List Entry) → every ≡ g ++ h → MadeFrom files l.scenario (items_in (take k l.scenario.phases)) ps h → LegalFrom l.limits g h → (first n : ℕ) → EntriesRight l g first h n
+phases_right files l is every all [] k left g r0 h is_every made legal first n = subst (λ (x : List Entry). EntriesRight l g first x n) (sym made) tt
+phases_right files l is every all (p ∷ ps) k left g r0 h is_every (part, rest, splits, its, made) legal first n =
     let at = drop_at l.scenario.phases k p ps left in
     let next : k + 1 ≡ suc k = omega arith in
     let same : phases (g ++ part) ≡ k = ends_none g part its.no_end ∙ r0.ended in
     let is_open : k < length l.scenario.phases = place_less l.scenario.phases k p at.0 in
     let done = reached_all files l is g part k p at.0 r0 its in
+    let parts : InParts (suc k) ((g ++ part) ++ EndPhase ∷ []) = parts_push k g part r0.parts its.no_end in
+    let here : every ≡ (g ++ part) ++ EndPhase ∷ rest = is_every ∙ ap (λ (x : List Entry). g ++ x) splits ∙ sym (append_assoc g part (EndPhase ∷ rest)) in
+    let behind_it : every ≡ ((g ++ part) ++ EndPhase ∷ []) ++ rest = here ∙ sym (append_assoc (g ++ part) (EndPhase ∷ []) rest) in
     let ended : phases ((g ++ part) ++ EndPhase ∷ []) ≡ k + 1 = omega (arith, phases_push (g ++ part) EndPhase, same) in
     let r1 : Reached files l (k + 1) ((g ++ part) ++ EndPhase ∷ []) = record {
       ended = ended;
       lanes = λ lane least most. sent_push lane (g ++ part) EndPhase ∙ append-nil (sent lane (g ++ part)) ∙ done.0 lane least most;
-      daemons = λ d least most. asked_push d (g ++ part) EndPhase ∙ append-nil (asked d (g ++ part)) ∙ done.1 d least most;
+      daemons = λ d least most plain. asked_push d (g ++ part) EndPhase ∙ append-nil (asked d (g ++ part)) ∙ done.1 d least most plain;
+      parts = subst (λ (i : ℕ). InParts i ((g ++ part) ++ EndPhase ∷ [])) (sym next) parts;
     } in
     let whole : LegalFrom l.limits g (part ++ EndPhase ∷ rest) = subst (LegalFrom l.limits g) splits legal in
     let legal' : LegalFrom l.limits (g ++ part) (EndPhase ∷ rest) = legal_behind l.limits g part (EndPhase ∷ rest) whole in
@@ -256,15 +282,16 @@ phases_right files l is (p ∷ ps) k left g r0 h (part, rest, splits, its, made)
     let ends : CanEnd l (g ++ part) = record {
       is_open = omega (arith, same, is_open);
       lanes = λ lane least most. done.0 lane least most ∙ sym (packets_are files l (k + 1) lane is least most) ∙ ap (λ (m : ℕ). packets_to l (m + 1) lane) (sym same);
-      daemons = λ d least most. done.1 d least most ∙ ap (λ (m : ℕ). lines_to l (m + 1) d) (sym same);
+      daemons = λ d least most plain. done.1 d least most plain ∙ ap (λ (m : ℕ). lines_to l (m + 1) d) (sym same);
+      machines = λ d m has. drives_up_to l every (g ++ part) ((g ++ part) ++ EndPhase ∷ []) rest k d m all has same behind_it parts;
     } in
     let end_line : FirstLine l (g ++ part) EndPhase = record { next = tt; size = tt; machine = tt; look = tt; ends = ends } in
     let behind : (f : ℕ) → EntriesRight l (g ++ part) f (EndPhase ∷ rest) n = λ f. (
       record { first_line = λ line. end_line; further = λ i less line. tt },
-      phases_right files l is ps (k + 1) left' ((g ++ part) ++ EndPhase ∷ []) r1 rest made' legal'.1 (f + line_count EndPhase) n,
+      phases_right files l is every all ps (k + 1) left' ((g ++ part) ++ EndPhase ∷ []) r1 rest behind_it made' legal'.1 (f + line_count EndPhase) n,
     ) in
     let start : EntriesRight l (g ++ []) first (part ++ EndPhase ∷ rest) n =
-    in_part files l is g part rest k n p at.0 r0 its behind part [] refl
+    in_part files l is every g part rest k n p at.0 is_open all here r0 its behind part [] refl
     (subst (λ (x : List Entry). LegalFrom l.limits x (part ++ EndPhase ∷ rest)) (sym (append-nil g)) whole)
     (ap phases (append-nil g) ∙ r0.ended) its.callers its.no_end first in
     subst (λ (x : List Entry). EntriesRight l g first x n) (sym splits)

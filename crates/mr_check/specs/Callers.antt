@@ -1,5 +1,5 @@
 -- What the callers of a loaded scenario are to do, and the flows of its packets.
-use Rattle.std.specs.Prelude.{ℕ, ◌-◌, ◌==◌, nat_lt, Option, Some, None, List, [], find, flat_map, get_or, map, take}
+use Rattle.std.specs.Prelude.{ℕ, zero, suc, ◌-◌, ◌==◌, nat_lt, Option, Some, None, List, [], find, flat_map, get_or, map, take}
 use Rattle.std.specs.List.{filter}
 use Rattle.mr_base.specs.declared.numbers.LaneNo.{LaneNo}
 use Rattle.mr_lines.specs.Fit.{no_flow}
@@ -11,6 +11,7 @@ use Rattle.mr_model.specs.declared.entry.Entry.TheVariants.{Call, Slow, Settle, 
 use Rattle.mr_model.specs.declared.entry.FastRecord.{FastRecord}
 use Rattle.mr_model.specs.declared.flow.Flow.{Flow}
 use Rattle.mr_scenario.specs.declared.scenario.Script.{Script}
+use Rattle.smc_core.specs.Machine.{Machine}
 
 abbrev pub no_lane : LaneValue
 no_lane = record { lane = record { 0 = 0 }; packets = [] }
@@ -33,6 +34,11 @@ packets_to l k lane = map sent_of (due_before k (due_of_lane l lane))
 -- what a daemon is to ask in the first k phases, in its order
 abbrev pub lines_to : Loaded → ℕ → ℕ → List Script
 lines_to l k d = flat_map (to_ask d) (take k l.scenario.phases)
+
+-- the routing machine of a daemon before its first line, if it has one
+abbrev pub machine_at : Loaded → ℕ → Option Machine
+machine_at l zero = None
+machine_at l (suc i) = get_or l.machines i None
 
 -- the flow of a packet, if there is one; else all zeros
 abbrev pub flow_due : Option Due → Flow

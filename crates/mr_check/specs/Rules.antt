@@ -1,7 +1,8 @@
 -- The rules of a history's entries. Each asks of the scenario, of the history g before, and of the entry itself.
-use Rattle.std.specs.Prelude.{◌≡◌, ℕ, ◌+◌, ◌<◌, ◌≤◌, List, [], ◌∷◌, ◌++◌, IfSome, fold, length, slice_get, take}
+use Rattle.std.specs.Prelude.{◌≡◌, ℕ, ◌+◌, ◌<◌, ◌≤◌, false, Some, List, [], ◌∷◌, ◌++◌, IfSome, fold, length, slice_get, take}
 use Rattle.mr_base.specs.declared.numbers.DaemonNo.{DaemonNo}
 use Rattle.mr_base.specs.declared.numbers.LaneNo.{LaneNo}
+use Rattle.mr_load.specs.Callers.{has_machine}
 use Rattle.mr_load.specs.Made.{asked, sent}
 use Rattle.mr_load.specs.declared.loading.Loaded.{Loaded}
 use Rattle.mr_model.specs.Answer.{answer}
@@ -17,7 +18,9 @@ use Rattle.mr_model.specs.declared.limits.Limits.{Limits}
 use Rattle.mr_model.specs.declared.reply.Reply.{Reply}
 use Rattle.mr_model.specs.declared.request.Request.{Request}
 use Rattle.mr_plain.specs.Following.{SlowLooks}
-use Rattle.mr_check.specs.Callers.{lines_to, packets_to}
+use Rattle.smc_core.specs.Machine.{Machine}
+use Rattle.smc_daemon.specs.Courses.{DrivesFrom}
+use Rattle.mr_check.specs.Callers.{lines_to, machine_at, packets_to}
 
 -- These stand first among all.
 abbrev pub IsFront : {A : Type 0} → List A → List A → Type 0
@@ -32,10 +35,17 @@ pub record SendsNext (l : Loaded) (g : List Entry) (lane : LaneNo) (e : Entry) :
   pub lane_is : IsLane l.limits lane
   pub next : IsFront (sent lane.0 (g ++ e ∷ [])) (packets_to l (present g) lane.0)
 
--- With the entry the daemon has asked the first of what it is to ask up to the end of this phase.
+-- In the phases up to the present one the daemon did in this history just what its machine does.
+abbrev pub DrivesUpTo : Loaded → List Entry → ℕ → Machine → List Entry → Type 0
+DrivesUpTo l g d machine h = DrivesFrom d machine [] (take (present g) l.scenario.phases) h
+
+-- With the entry the daemon has asked the first of what it is to ask up to the end of this phase. If it has a routing machine,
+-- something may stand behind the entry up to that end with which the daemon did just what its machine does.
 pub record AsksNext (l : Loaded) (g : List Entry) (d : DaemonNo) (e : Entry) : Type 0 where
   pub daemon_is : IsDaemon l.limits d
-  pub next : IsFront (asked d.0 (g ++ e ∷ [])) (lines_to l (present g) d.0)
+  pub is_open : phases g < length l.scenario.phases
+  pub next : has_machine l.scenario d.0 ≡ false → IsFront (asked d.0 (g ++ e ∷ [])) (lines_to l (present g) d.0)
+  pub machine : (m : Machine) → machine_at l d.0 ≡ Some m → (later : List Entry) × DrivesUpTo l g d.0 m (g ++ e ∷ later)
 
 -- An entry's call is the next one of its lane or daemon in this phase.
 abbrev pub IsNext : Loaded → List Entry → Entry → Type 0
@@ -78,7 +88,8 @@ HasLook g _ = Unit {0}
 pub record CanEnd (l : Loaded) (g : List Entry) : Type 0 where
   pub is_open : phases g < length l.scenario.phases
   pub lanes : (lane : ℕ) → 1 ≤ lane → lane ≤ l.scenario.lanes → sent lane g ≡ packets_to l (present g) lane
-  pub daemons : (d : ℕ) → 1 ≤ d → d ≤ length l.scenario.daemons → asked d g ≡ lines_to l (present g) d
+  pub daemons : (d : ℕ) → 1 ≤ d → d ≤ length l.scenario.daemons → has_machine l.scenario d ≡ false → asked d g ≡ lines_to l (present g) d
+  pub machines : (d : ℕ) (m : Machine) → machine_at l d ≡ Some m → DrivesUpTo l g d m (g ++ EndPhase ∷ [])
 
 -- A phase ends where it can.
 abbrev pub EndsRight : Loaded → List Entry → Entry → Type 0
