@@ -18,7 +18,7 @@ use Rattle.mr_model.specs.declared.message.MessageId.{MessageId}
 use Rattle.mr_model.specs.declared.reply.Reply.{Reply}
 use Rattle.mr_model.specs.declared.request.Request.{Request}
 use Rattle.mr_model.specs.Past.{controls}
-use Rattle.mr_replay.specs.Daemons.{AsksAll, FindsFull, HasAsked, lines_by, made_by}
+use Rattle.mr_replay.specs.Daemons.{FindsEnd, FindsFull, HasAsked, lines_by, made_by}
 use Rattle.mr_authors.specs.Authors.{daemon_author, own}
 use Rattle.mr_router.specs.Callers.{DaemonValue}
 use Rattle.mr_router.specs.Histories.{GoesOn, Makes}
@@ -77,42 +77,6 @@ lines_within d (suc i) (k ∷ ls) l less at =
     let rest = lines_within d i ls l (omega (arith, less)) at in
     omega (arith, rest, length-append (of_daemon d k) (flat_map (of_daemon d) (take i ls)), length-append (of_daemon d k) (flat_map (of_daemon d) ls))
 
--- how many lines the daemons up to one have
-abbrev up_to : ℕ → ScriptLine → ℕ
-up_to n l = cond (nat_le l.daemon.0 n) 1 0
-
-abbrev pub lines_to : ℕ → List ScriptLine → ℕ
-lines_to n ls = sum_by (up_to n) ls
-
-one_more : (n : ℕ) (l : ScriptLine) → up_to (n + 1) l ≡ up_to n l + length (of_daemon (n + 1) l)
-one_more n l = by_test (l.daemon.0 == n + 1) refl
-  where
-    by_test : (t : Bool) → (l.daemon.0 == n + 1) ≡ t → up_to (n + 1) l ≡ up_to n l + length (of_daemon (n + 1) l)
-    by_test true t =
-        let here : nat_le l.daemon.0 (n + 1) ≡ true = grind (arith, nat_tests, t) in
-        let before : nat_le l.daemon.0 n ≡ false = grind (arith, nat_tests, t) in
-        rw (here, before, t) refl
-    by_test false t =
-        let same : nat_le l.daemon.0 (n + 1) ≡ nat_le l.daemon.0 n = grind (arith, nat_tests, t) in
-        rw (same, t) (omega arith)
-
-pub lines_next : (n : ℕ) (ls : List ScriptLine) → lines_to (n + 1) ls ≡ lines_to n ls + length (flat_map (of_daemon (n + 1)) ls)
-lines_next n [] = refl
-lines_next n (l ∷ ls) =
-    let rest : lines_to (n + 1) ls ≡ lines_to n ls + length (flat_map (of_daemon (n + 1)) ls) = lines_next n ls in
-    omega (arith, rest, one_more n l, sum_by-cons (up_to (n + 1)) l ls, sum_by-cons (up_to n) l ls, length-append (of_daemon (n + 1) l) (flat_map (of_daemon (n + 1)) ls))
-
-few_up_to : (n : ℕ) (l : ScriptLine) → up_to n l ≤ 1
-few_up_to n l = either (nat_le l.daemon.0 n)
-  where
-    either : (b : Bool) → cond b 1 0 ≤ 1
-    either true = omega arith
-    either false = omega arith
-
-pub lines_all : (n : ℕ) (ls : List ScriptLine) → lines_to n ls ≤ length ls
-lines_all n [] = omega arith
-lines_all n (l ∷ ls) = omega (arith, lines_all n ls, few_up_to n l, sum_by-cons (up_to n) l ls)
-
 -- nothing is asked
 pub has_none : (d : DaemonValue) → HasAsked [] d d
 has_none d = record { daemon = refl; asks = asks_none d.daemon.0 (made_by d) }
@@ -135,19 +99,20 @@ has_next n i ls l old now new less at x y =
 
 -- a line for which there is no room
 pub ends_full : (limits : Limits) (n i : ℕ) (ls : List ScriptLine) (l : ScriptLine) (old now new : DaemonValue) → i < length ls → l ≡ get_or ls i l → length (of_daemon n l) ≡ 1
-    → HasAsked (lines_by n (take i ls)) old now → FindsFull limits now new → AsksAll limits (lines_by n ls) old new
+    → HasAsked (lines_by n (take i ls)) old now → FindsFull limits now new → FindsEnd limits (lines_by n ls) old new
 ends_full limits n i ls l old now new less at one x full = record {
   done = lines_by n (take i ls);
   asked = record {
     daemon = full.daemon ∙ x.daemon;
     asks = subst (λ (h : List Entry). Asks old.daemon.0 (lines_by n (take i ls)) (made_by old) h) (sym full.same) x.asks;
   };
-  rest = inr (record { fewer = omega (arith, lines_within n i ls l less at, one); full = full.full });
+  fewer = omega (arith, lines_within n i ls l less at, one);
+  full = full.full;
 }
 
 -- all lines
-pub ends_whole : (limits : Limits) (n i : ℕ) (ls : List ScriptLine) (old now : DaemonValue) → length ls ≤ i → HasAsked (lines_by n (take i ls)) old now → AsksAll limits (lines_by n ls) old now
-ends_whole limits n i ls old now le x = record { done = lines_by n (take i ls); asked = x; rest = inl (ap (lines_by n) (take_all i ls le)) }
+pub ends_whole : (n i : ℕ) (ls : List ScriptLine) (old now : DaemonValue) → length ls ≤ i → HasAsked (lines_by n (take i ls)) old now → HasAsked (lines_by n ls) old now
+ends_whole n i ls old now le x = subst (λ (xs : List ScriptLine). HasAsked (lines_by n xs) old now) (take_all i ls le) x
 
 -- the answers of the machine
 pub call_made : (limits : Limits) (r : Request) (reply : Reply) (released : List ReleasedId) (old new : DaemonValue) → new.daemon ≡ old.daemon

@@ -47,7 +47,7 @@ seat_sync : (E B : RattleType) (b : book_name.Ghosts B.Denot) → IsSync (Seat.t
 seat_sync E B b = view_sync _ _ _ _ _ (declared_sync (seat_inside.the_type E B b) (place_sync (View.the_row E), (phantom.the_sync B, tt)))
 
 -- The lock with the machine behind it, and the router's own seat.
-router_sync : (B C : RattleType) (b : book_name.Ghosts B.Denot) (r : run_name.Ghosts C.Denot) → IsSync (Router.the_row B C b (journaled.ghosts C r journaled.no_dict) r authored.ghosts)
+pub router_sync : (B C : RattleType) (b : book_name.Ghosts B.Denot) (r : run_name.Ghosts C.Denot) → IsSync (Router.the_row B C b (journaled.ghosts C r journaled.no_dict) r authored.ghosts)
 router_sync B C b r =
     let books = book.the_sync (Machine.the_row C r) B Signed.the_row (journaled.ghosts C r journaled.no_dict) authored.ghosts b (machine.the_send C r) in
     view_sync _ _ _ _ _ (declared_sync (router_inside.the_type B C b (journaled.ghosts C r journaled.no_dict) r authored.ghosts) (books, (seat_sync Signed.the_row B b, tt)))

@@ -66,7 +66,7 @@ stops fs gs rest (status.Scenario line k text) a b c s w bad = absurd w
 stops fs gs rest (status.Trace file cause) a b c s w bad = absurd w
 stops fs gs rest status.SinkFault a b c s w bad = absurd w
 stops fs gs rest status.ControlFull a b c s w bad = absurd w
-stops fs gs rest (status.NotBuilt line) a b c s w bad = absurd w
+stops fs gs rest (status.Conf file line kind text) a b c s w bad = absurd w
 
 pub writes_push : (names : List (List ℕ)) (name : List ℕ) (failed : Bool) → writes_of (names ++ name ∷ []) failed ≡ writes_of names false ++ write_of name failed ∷ []
 writes_push [] name failed = refl
@@ -164,7 +164,7 @@ stopped f n k a b c x y z s less bad w done called = record {
     by_status (status.Trace file cause) never v e = absurd v
     by_status status.SinkFault never v e = absurd v
     by_status status.ControlFull never v e = absurd v
-    by_status (status.NotBuilt line) never v e = absurd v
+    by_status (status.Conf file line kind text) never v e = absurd v
 
 -- one file's write, by what the store says of it
 pub put_good : (name bytes : List ℕ) (a b : Option Files) → HasFile b name bytes → OthersStay name a b → Stores (record { name = name; bytes = bytes } ∷ []) a b

@@ -6,8 +6,9 @@ use Rattle.mr_load.specs.declared.status.Status.{Status}
 use Rattle.mr_load.specs.declared.status.Status.TheVariants as status
 use Rattle.mr_replay.specs.Egress.{EgressFile, IsOutput, StopsAt, Stores, StoresFirst, Writes, Wrote, failed_write}
 use Rattle.mr_load.specs.declared.status.TraceCause.{TraceCause}
-use Rattle.mr_replay.specs.Endings.{IfNotBuilt, IfScenario, IfStoreFault, IfTrace, is_silent, keeps_files}
+use Rattle.mr_replay.specs.Endings.{IfConf, IfScenario, IfStoreFault, IfTrace, is_silent, keeps_files}
 use Rattle.mr_scenario.specs.declared.stop.Kind.{Kind}
+use Rattle.smc_conf.specs.declared.stop.Kind.{Kind as ConfKind}
 use Rattle.mr_replay.proofs.Egressing.{stores_both, stores_but}
 
 none_stored : (a b : Option Files) → AllStay a b → Stores [] a b
@@ -40,7 +41,7 @@ writes_from fs (status.Scenario line kind text) a b c stay w = absurd w
 writes_from fs (status.Trace file cause) a b c stay w = absurd w
 writes_from fs status.SinkFault a b c stay w = absurd w
 writes_from fs status.ControlFull a b c stay w = absurd w
-writes_from fs (status.NotBuilt line) a b c stay w = absurd w
+writes_from fs (status.Conf name line kind text) a b c stay w = absurd w
 
 pub wrote_good : (s : Status) (N : Type 0) (taken now : Option (List ℕ)) (a b c : Option Files) (text : List ℕ) (egress : List EgressFile) → AllStay a b → s ≡ status.Good → Wrote s N taken now b c text egress
     → Takes taken text now × Stores egress a c
@@ -92,7 +93,7 @@ if_fault (status.Scenario line kind text) P f = tt
 if_fault (status.Trace file cause) P f = tt
 if_fault status.SinkFault P f = tt
 if_fault status.ControlFull P f = tt
-if_fault (status.NotBuilt line) P f = tt
+if_fault (status.Conf name line kind text) P f = tt
 
 pub at_fault : (s : Status) (P : List ℕ → Type 0) (name : List ℕ) → s ≡ status.StoreFault name → IfStoreFault s P → P name
 at_fault s P name e f = subst (λ (t : Status). IfStoreFault t P) e f
@@ -119,7 +120,7 @@ no_silent status.Usage X o e = absurd o
 no_silent (status.Scenario line kind text) X o e = absurd o
 no_silent (status.Trace file cause) X o e = absurd o
 no_silent status.ControlFull X o e = absurd o
-no_silent (status.NotBuilt line) X o e = absurd o
+no_silent (status.Conf name line kind text) X o e = absurd o
 
 pub keeps_sink : (s : Status) → IsOutput s → keeps_files s ≡ true → s ≡ status.SinkFault
 keeps_sink status.Good o e = absurd (cc (e))
@@ -130,7 +131,7 @@ keeps_sink status.Usage o e = absurd o
 keeps_sink (status.Scenario line kind text) o e = absurd o
 keeps_sink (status.Trace file cause) o e = absurd o
 keeps_sink status.ControlFull o e = absurd o
-keeps_sink (status.NotBuilt line) o e = absurd o
+keeps_sink (status.Conf name line kind text) o e = absurd o
 
 pub no_usage : (s : Status) (X : Type 0) → IsOutput s → s ≡ status.Usage → X
 no_usage status.Good X o e = absurd (cc (e))
@@ -141,7 +142,7 @@ no_usage status.Usage X o e = absurd o
 no_usage (status.Scenario line kind text) X o e = absurd o
 no_usage (status.Trace file cause) X o e = absurd o
 no_usage status.ControlFull X o e = absurd o
-no_usage (status.NotBuilt line) X o e = absurd o
+no_usage (status.Conf name line kind text) X o e = absurd o
 
 pub no_full : (s : Status) (X : Type 0) → IsOutput s → s ≡ status.ControlFull → X
 no_full status.Good X o e = absurd (cc (e))
@@ -152,7 +153,7 @@ no_full status.Usage X o e = absurd o
 no_full (status.Scenario line kind text) X o e = absurd o
 no_full (status.Trace file cause) X o e = absurd o
 no_full status.ControlFull X o e = absurd o
-no_full (status.NotBuilt line) X o e = absurd o
+no_full (status.Conf name line kind text) X o e = absurd o
 
 pub no_scenario : (s : Status) (P : ℕ → Kind → List ℕ → Type 0) → IsOutput s → IfScenario s P
 no_scenario status.Good P o = tt
@@ -163,7 +164,7 @@ no_scenario status.Usage P o = absurd o
 no_scenario (status.Scenario line kind text) P o = absurd o
 no_scenario (status.Trace file cause) P o = absurd o
 no_scenario status.ControlFull P o = absurd o
-no_scenario (status.NotBuilt line) P o = absurd o
+no_scenario (status.Conf name line kind text) P o = absurd o
 
 pub no_trace : (s : Status) (P : List ℕ → TraceCause → Type 0) → IsOutput s → IfTrace s P
 no_trace status.Good P o = tt
@@ -174,18 +175,18 @@ no_trace status.Usage P o = absurd o
 no_trace (status.Scenario line kind text) P o = absurd o
 no_trace (status.Trace file cause) P o = absurd o
 no_trace status.ControlFull P o = absurd o
-no_trace (status.NotBuilt line) P o = absurd o
+no_trace (status.Conf name line kind text) P o = absurd o
 
-pub no_unbuilt : (s : Status) (P : ℕ → Type 0) → IsOutput s → IfNotBuilt s P
-no_unbuilt status.Good P o = tt
-no_unbuilt status.Memory P o = tt
-no_unbuilt (status.StoreFault name) P o = tt
-no_unbuilt status.SinkFault P o = tt
-no_unbuilt status.Usage P o = absurd o
-no_unbuilt (status.Scenario line kind text) P o = absurd o
-no_unbuilt (status.Trace file cause) P o = absurd o
-no_unbuilt status.ControlFull P o = absurd o
-no_unbuilt (status.NotBuilt line) P o = absurd o
+pub no_conf : (s : Status) (P : List ℕ → ℕ → ConfKind → List ℕ → Type 0) → IsOutput s → IfConf s P
+no_conf status.Good P o = tt
+no_conf status.Memory P o = tt
+no_conf (status.StoreFault name) P o = tt
+no_conf status.SinkFault P o = tt
+no_conf status.Usage P o = absurd o
+no_conf (status.Scenario line kind text) P o = absurd o
+no_conf (status.Trace file cause) P o = absurd o
+no_conf status.ControlFull P o = absurd o
+no_conf (status.Conf name line kind text) P o = absurd o
 
 pub not_both : {A : Type 0} (o : Option A) (x : A) (X : Type 0) → o ≡ None → o ≡ Some x → X
 not_both None x X e f = absurd (cc (f))

@@ -2,6 +2,9 @@ pub mod Sent
 pub mod OneLane
 pub mod Asked
 pub mod Turning
+pub mod Taking
+pub mod Forking
+pub mod Playing
 pub mod Duing
 pub mod Phasing
 pub mod Plain
@@ -9,8 +12,9 @@ pub mod Limits
 pub mod Ready
 pub mod Lining
 pub mod Meeting
-pub mod Counting
 pub mod Stepping
+pub mod PacketSums
+pub mod Driving
 pub mod Replaying
 pub mod Slowing
 pub mod Egressing

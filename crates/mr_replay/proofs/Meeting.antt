@@ -1,5 +1,5 @@
 -- What lanes and daemons did in a phase, each for itself, as the history has it behind its former entries.
-use Rattle.std.proofs.Common.{◌≡◌, ◌∙◌, ℕ, zero, suc, ◌+◌, ◌-◌, ◌≤◌, ◌<◌, ◌⊎◌, inl, inr, All, List, [], ◌∷◌, ◌++◌, length, map, get_or, refl, sym, ap, arith, append-nil, subst}
+use Rattle.std.proofs.Common.{◌≡◌, ◌∙◌, ℕ, zero, suc, ◌+◌, ◌-◌, ◌≤◌, ◌<◌, All, Option, Some, None, Ok, Err, List, [], ◌∷◌, ◌++◌, length, map, get_or, refl, sym, ap, arith, append-nil, subst}
 use Rattle.std.proofs.lemmas.List.{append_cancel_left, length-map}
 use Rattle.std.proofs.lemmas.List.Elements.{All-get_or}
 use mathlib.Core.List.{IsPrefix}
@@ -8,19 +8,29 @@ use Rattle.mr_base.specs.declared.numbers.LaneNo.{LaneNo}
 use Rattle.mr_callers.proofs.Doing.{own_append}
 use Rattle.mr_callers.proofs.Joined.{asked_own, sent_own}
 use Rattle.mr_load.specs.Dues.{LaneValue, sent_of}
-use Rattle.mr_load.specs.Made.{asked, sent}
+use Rattle.mr_load.specs.Made.{asked, sent, to_ask}
+use Rattle.mr_model.specs.Deeds.{Deed}
+use Rattle.mr_model.specs.declared.caller.CallError.TheVariants as call_error
 use Rattle.mr_model.specs.declared.entry.Entry.{Entry}
 use Rattle.mr_model.specs.declared.entry.Entry.TheVariants.{EndPhase}
 use Rattle.mr_model.specs.declared.limits.Limits.{Limits}
 use Rattle.mr_model.specs.Past.{controls}
-use Rattle.mr_replay.specs.Daemons.{AllAsk, AreDaemons, AsksAll, FindsEnd, at_daemon, lines_by, made_by}
+use Rattle.mr_replay.specs.Daemons.{AreDaemons, HasAsked, at_daemon, lines_by, made_by}
+use Rattle.mr_replay.specs.Turns.{AllTurn, IsIdle, Stop, Turn}
 use Rattle.mr_replay.specs.Lanes.{AllSend, AreLanes, HadTurn, IsReady, at_lane, due_in, lane_at, own_of}
 use Rattle.mr_replay.proofs.Phasing.{none_own}
+use Rattle.mr_replay.proofs.Playing.{did_is}
 use Rattle.mr_authors.specs.Authors.{daemon_author, own}
 use Rattle.mr_router.specs.Callers.{DaemonValue, daemon_sees, lane_sees}
 use Rattle.mr_router.specs.Callers as router
 use Rattle.mr_router.proofs.Deeding.{controls_more}
+use Rattle.mr_scenario.specs.declared.scenario.Phase.{Phase}
+use Rattle.mr_scenario.specs.declared.scenario.Script.{Script}
 use Rattle.mr_scenario.specs.declared.scenario.ScriptLine.{ScriptLine}
+use Rattle.smc_core.specs.Machine.{Machine}
+use Rattle.smc_daemon.specs.Courses.{Drives, IsBegun, IsCourse, machine_after, machine_behind}
+use Rattle.smc_daemon.specs.Deeds.{did}
+use Rattle.smc_daemon.specs.Lines.{lines_in}
 
 -- a caller's entries behind a phase
 own_behind : (n : ℕ) (h part new : List Entry) → 1 ≤ n → new ≡ (h ++ part) ++ EndPhase ∷ [] → own n new ≡ own n h ++ own n part
@@ -64,57 +74,65 @@ lanes_did k many vs h part new old mid are sends is known n least most =
     (lane_did k (i + 1) (lane_at vs (i + 1)) h part new (get_or old i none) (get_or mid i none) first is (are.each i none inside) (sends.each i none there)
     (All-get_or (λ (l : router.LaneValue). own l.lane.0 new ≡ own l.lane.0 l.seen) mid i none here known))
 
--- Daemon d has asked its lines in this phase, or the history has no room left for one of them.
-pub record IsCut (limits : Limits) (ls : List ScriptLine) (d : ℕ) (part before : List Entry) : Type 0 where
-  pub fewer : length (asked d part) < length (lines_by d ls)
-  pub full : limits.controls ≤ controls before
+-- What daemon d did in a phase, with its machine before and behind it, by why it stopped.
+abbrev pub Did : Limits → Phase → ℕ → List Entry → List Entry → Option Machine → Option Machine → Stop → Type 0
+Did limits p d h part None None (Ok u) = asked d part ≡ to_ask d p
+Did limits p d h part None None (Err e) = (length (asked d part) < length (lines_by d p.script)) × (limits.controls ≤ controls (h ++ part))
+Did limits p d h part (Some m) (Some m') (Ok u) = Drives d m p h part × (m' ≡ machine_behind d m p h part) × IsIdle m'
+Did limits p d h part (Some m) (Some m') (Err e) =
+    (missing : List Deed) × IsBegun m (lines_in d p) (did d h part) missing
+    × (e ≡ call_error.ControlFull → (0 < length missing) × (limits.controls ≤ controls (h ++ part)))
+Did limits p d h part _ _ stop = ⊥
 
-abbrev pub DaemonDid : Limits → List ScriptLine → ℕ → List Entry → List Entry → Type 0
-DaemonDid limits ls d part before = (asked d part ≡ lines_by d ls) ⊎ IsCut limits ls d part before
+asked_is : (d : ℕ) (h part new : List Entry) (mid : DaemonValue) (what : List Script) → new ≡ (h ++ part) ++ EndPhase ∷ [] → HasAsked what (at_daemon d h) mid → own (daemon_author mid.daemon.0) new ≡ made_by mid → asked d part ≡ what
+asked_is d h part new mid what is x known =
+    let still : mid.daemon.0 ≡ d = ap (λ (n : DaemonNo). n.0) x.daemon in
+    let same : own (daemon_author d) new ≡ made_by mid = subst (λ (n : ℕ). own (daemon_author n) new ≡ made_by mid) still known in
+    let did : List Entry = x.asks.part in
+    let mine : own (daemon_author d) part ≡ did = own_within (daemon_author d) h part new did (omega arith) is (same ∙ x.asks.behind) in
+    sym (asked_own d part) ∙ ap (asked d) mine ∙ x.asks.does
 
-daemon_did : (limits : Limits) (ls : List ScriptLine) (d : ℕ) (h part new : List Entry) (old mid : DaemonValue) → new ≡ (h ++ part) ++ EndPhase ∷ [] → old ≡ at_daemon d h → AsksAll limits (lines_by d ls) old mid
-    → own (daemon_author mid.daemon.0) new ≡ own (daemon_author mid.daemon.0) mid.seen → IsPrefix mid.seen (h ++ part) → DaemonDid limits ls d part (h ++ part)
-daemon_did limits ls d h part new old mid is was asks known begins = by_rest asks.rest
-  where
-    number : old.daemon.0 ≡ d
-    number = ap (λ (x : DaemonValue). x.daemon.0) was
+pub turn_did : (limits : Limits) (p : Phase) (d : ℕ) (h part new : List Entry) (mid : DaemonValue) (m m' : Option Machine) (stop : Stop) → new ≡ (h ++ part) ++ EndPhase ∷ []
+    → Turn limits p.script d m m' stop (at_daemon d h) mid → own (daemon_author mid.daemon.0) new ≡ made_by mid → IsPrefix mid.seen (h ++ part) → Did limits p d h part m m' stop
+turn_did limits p d h part new mid None None (Ok u) is t known begins = asked_is d h part new mid (lines_by d p.script) is t known
+turn_did limits p d h part new mid None None (Err e) is t known begins =
+    let its : asked d part ≡ t.done = asked_is d h part new mid t.done is t.asked known in
+    ((omega (arith, t.fewer, ap length its)), (omega (arith, t.full, controls_more mid.seen (h ++ part) begins)))
+turn_did limits p d h part new mid (Some m) (Some m') (Ok u) is t known begins =
+    let same : did d h part ≡ t.plays.deeds = did_is d h part new mid t.plays.deeds is t.seen known begins t.plays.grew in (
+      subst (IsCourse m (lines_in d p)) (sym same) t.plays.course,
+      t.plays.machine ∙ ap (machine_after m (lines_in d p)) (sym same),
+      t.idle,
+    )
+turn_did limits p d h part new mid (Some m) (Some m') (Err e) is t known begins =
+    let same : did d h part ≡ t.breaks.deeds = did_is d h part new mid t.breaks.deeds is t.seen known begins t.breaks.grew in (
+      t.breaks.missing,
+      subst (λ (ds : List Deed). IsBegun m (lines_in d p) ds t.breaks.missing) (sym same) t.breaks.begun,
+      λ full. (t.breaks.full full, (omega (arith, t.full full, controls_more mid.seen (h ++ part) begins))),
+    )
+turn_did limits p d h part new mid None (Some m') stop is t known begins = absurd t
+turn_did limits p d h part new mid (Some m) None stop is t known begins = absurd t
 
-    still : mid.daemon.0 ≡ d
-    still = ap (λ (x : DaemonNo). x.0) asks.asked.daemon ∙ number
+-- it is the same daemon
+pub turn_daemon : (limits : Limits) (ls : List ScriptLine) (d : ℕ) (m m' : Option Machine) (stop : Stop) (old new : DaemonValue) → Turn limits ls d m m' stop old new → new.daemon ≡ old.daemon
+turn_daemon limits ls d None None (Ok u) old new t = t.daemon
+turn_daemon limits ls d None None (Err e) old new t = t.asked.daemon
+turn_daemon limits ls d (Some m) (Some m') (Ok u) old new t = t.seen.went_on.daemon
+turn_daemon limits ls d (Some m) (Some m') (Err e) old new t = t.seen.went_on.daemon
+turn_daemon limits ls d None (Some m') stop old new t = absurd t
+turn_daemon limits ls d (Some m) None stop old new t = absurd t
 
-    same : own (daemon_author d) new ≡ made_by mid
-    same = subst (λ (m : ℕ). own (daemon_author m) new ≡ made_by mid) still known
-
-    did : List Entry
-    did = asks.asked.asks.part
-
-    mine : own (daemon_author d) part ≡ did
-    mine = own_within (daemon_author d) h part new did (omega arith) is (same ∙ asks.asked.asks.behind ∙ ap (λ (es : List Entry). es ++ did) (ap made_by was))
-
-    asked_is : asked d part ≡ asks.done
-    asked_is = sym (asked_own d part) ∙ ap (asked d) mine ∙ ap (λ (m : ℕ). asked m did) (sym number) ∙ asks.asked.asks.does
-
-    by_rest : (asks.done ≡ lines_by d ls) ⊎ FindsEnd limits asks.done (lines_by d ls) mid → DaemonDid limits ls d part (h ++ part)
-    by_rest (inl all) = inl (asked_is ∙ all)
-    by_rest (inr end) = inr (record {
-      fewer = omega (arith, end.fewer, ap length asked_is);
-      full = omega (arith, end.full, controls_more mid.seen (h ++ part) begins);
-    })
-
-pub daemons_did : (limits : Limits) (many : ℕ) (ls : List ScriptLine) (h part new : List Entry) (old mid : List DaemonValue) → AreDaemons many h old → AllAsk limits ls old mid → new ≡ (h ++ part) ++ EndPhase ∷ []
-    → All (λ (d : DaemonValue). own (daemon_author d.daemon.0) new ≡ own (daemon_author d.daemon.0) d.seen) mid → All (λ (d : DaemonValue). IsPrefix d.seen (h ++ part)) mid
-    → (d : ℕ) → 1 ≤ d → d ≤ many → DaemonDid limits ls d part (h ++ part)
-daemons_did limits many ls h part new old mid are asks is known begins d least most =
-    let i = d - 1 in
-    let next : i + 1 ≡ d = omega (arith, least) in
+pub daemons_did : (limits : Limits) (p : Phase) (many : ℕ) (h part new : List Entry) (stop : Stop) (old mid : List DaemonValue) (ms ms' : List (Option Machine)) → AreDaemons many h old → (t : AllTurn limits p.script stop old ms mid ms')
+    → new ≡ (h ++ part) ++ EndPhase ∷ [] → All (λ (d : DaemonValue). own (daemon_author d.daemon.0) new ≡ own (daemon_author d.daemon.0) d.seen) mid → All (λ (d : DaemonValue). IsPrefix d.seen (h ++ part)) mid
+    → (i : ℕ) → i < many → Did limits p (i + 1) h part (get_or ms i None) (get_or ms' i None) (t.stops i)
+daemons_did limits p many h part new stop old mid ms ms' are t is known begins i less =
     let none = at_daemon 0 [] in
-    let inside : i < many = omega (arith, least, most) in
-    let there : i < length old = omega (arith, inside, are.many) in
-    let here : i < length mid = omega (arith, there, asks.many) in
-    subst (λ (m : ℕ). DaemonDid limits ls m part (h ++ part)) next
-    (daemon_did limits ls (i + 1) h part new (get_or old i none) (get_or mid i none) is (are.each i none inside) (asks.each i none there)
+    let there : i < length old = omega (arith, less, are.many) in
+    let here : i < length mid = omega (arith, there, t.many) in
+    turn_did limits p (i + 1) h part new (get_or mid i none) (get_or ms i None) (get_or ms' i None) (t.stops i) is
+    (subst (λ (d : DaemonValue). Turn limits p.script (i + 1) (get_or ms i None) (get_or ms' i None) (t.stops i) d (get_or mid i none)) (are.each i none less) (t.each i none there))
     (All-get_or (λ (x : DaemonValue). own (daemon_author x.daemon.0) new ≡ own (daemon_author x.daemon.0) x.seen) mid i none here known)
-    (All-get_or (λ (x : DaemonValue). IsPrefix x.seen (h ++ part)) mid i none here begins))
+    (All-get_or (λ (x : DaemonValue). IsPrefix x.seen (h ++ part)) mid i none here begins)
 
 got_map : {X : Type 0} (f : X → X) (xs : List X) (i : ℕ) (x : X) → i < length xs → get_or (map f xs) i x ≡ f (get_or xs i x)
 got_map f [] i x less = absurd (omega (arith, less))
@@ -135,13 +153,15 @@ lanes_see k many vs h new old mid after are sends is = record {
     seeing : LaneNo → router.LaneValue
     seeing n = record { lane = n; seen = new }
 
-pub daemons_see : (limits : Limits) (many : ℕ) (ls : List ScriptLine) (h new : List Entry) (old mid after : List DaemonValue) → AreDaemons many h old → AllAsk limits ls old mid → after ≡ map (daemon_sees new) mid → AreDaemons many new after
-daemons_see limits many ls h new old mid after are asks is = record {
-  many = ap length is ∙ length-map mid (daemon_sees new) ∙ asks.many ∙ are.many;
+pub daemons_see : (limits : Limits) (many : ℕ) (ls : List ScriptLine) (h new : List Entry) (stop : Stop) (old mid after : List DaemonValue) (ms ms' : List (Option Machine)) → AreDaemons many h old → AllTurn limits ls stop old ms mid ms'
+    → after ≡ map (daemon_sees new) mid → AreDaemons many new after
+daemons_see limits many ls h new stop old mid after ms ms' are t is = record {
+  many = ap length is ∙ length-map mid (daemon_sees new) ∙ t.many ∙ are.many;
   each = λ i d inside.
       let there : i < length old = omega (arith, inside, are.many) in
-      let daemon : (get_or mid i d).daemon ≡ (at_daemon (i + 1) h).daemon = (asks.each i d there).asked.daemon ∙ ap (λ (x : DaemonValue). x.daemon) (are.each i d inside) in
-      ap (λ (xs : List DaemonValue). get_or xs i d) is ∙ got_map (daemon_sees new) mid i d (omega (arith, there, asks.many))
+      let same = turn_daemon limits ls (i + 1) (get_or ms i None) (get_or ms' i None) (t.stops i) (get_or old i d) (get_or mid i d) (t.each i d there) in
+      let daemon : (get_or mid i d).daemon ≡ (at_daemon (i + 1) h).daemon = same ∙ ap (λ (x : DaemonValue). x.daemon) (are.each i d inside) in
+      ap (λ (xs : List DaemonValue). get_or xs i d) is ∙ got_map (daemon_sees new) mid i d (omega (arith, there, t.many))
       ∙ ap (λ (n : DaemonNo). seeing n) daemon;
 }
   where

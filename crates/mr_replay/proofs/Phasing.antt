@@ -1,7 +1,6 @@
 -- What one phase adds to a run.
 use Rattle.std.proofs.Common.{◌≡◌, ◌∙◌, ℕ, zero, suc, ◌+◌, ◌-◌, ◌≤◌, ◌<◌, ◌||◌, Bool, true, false, ◌==◌, Some, List, [], ◌∷◌, ◌++◌, length, map, take, get_or, refl, sym, ap, arith, append-nil, subst}
 use Rattle.std.proofs.Math.Seq.{append_snoc}
-use Rattle.std.proofs.lemmas.List.Sums.{sum_by-cons}
 use Rattle.std.specs.List.{AllByRecursion, list_any}
 use Rattle.std.specs.Prelude.{slice_get}
 use Rattle.mr_base.specs.Outside.{Files}
@@ -14,7 +13,6 @@ use Rattle.mr_model.specs.declared.entry.Entry.TheVariants.{EndPhase}
 use Rattle.mr_model.specs.Past.{is_end, phases}
 use Rattle.mr_model.proofs.PushingLists.{phases_push}
 use Rattle.mr_replay.specs.Lanes.{lane_at, no_lane}
-use Rattle.mr_replay.specs.Running.{lines_in}
 use Rattle.mr_scenario.specs.declared.scenario.Phase.{Phase}
 use Rattle.mr_scenario.specs.declared.scenario.Scenario.{Scenario}
 
@@ -37,29 +35,8 @@ none_own n least =
     let other : (0 == n) ≡ false = grind (arith, least) in
     rw other refl
 
-lines_suc : (ps : List Phase) (k : ℕ) (p : Phase) → slice_get ps k ≡ Some p → lines_in (take (suc k) ps) ≡ lines_in (take k ps) + length p.script
-lines_suc [] k p at = absurd (cc)
-lines_suc (q ∷ ps) zero p at =
-    let same : q ≡ p = cc in
-    rw (sym same) (omega (arith, sum_by-cons (λ (x : Phase). length x.script) q []))
-lines_suc (q ∷ ps) (suc k) p at =
-    let rest : lines_in (take (suc k) ps) ≡ lines_in (take k ps) + length p.script = lines_suc ps k p at in
-    omega (arith, rest, sum_by-cons (λ (x : Phase). length x.script) q (take (suc k) ps), sum_by-cons (λ (x : Phase). length x.script) q (take k ps))
-
 next_place : (k : ℕ) → k + 1 ≡ suc k
 next_place k = omega arith
-
-pub lines_next : (ps : List Phase) (k : ℕ) (p : Phase) → slice_get ps k ≡ Some p → lines_in (take (k + 1) ps) ≡ lines_in (take k ps) + length p.script
-lines_next ps k p at = ap (λ (n : ℕ). lines_in (take n ps)) (next_place k) ∙ lines_suc ps k p at
-
-pub lines_within : (ps : List Phase) (k : ℕ) (p : Phase) → slice_get ps k ≡ Some p → lines_in (take k ps) + length p.script ≤ lines_in ps
-lines_within [] k p at = absurd (cc)
-lines_within (q ∷ ps) zero p at =
-    let same : q ≡ p = cc in
-    rw (sym same) (omega (arith, sum_by-cons (λ (x : Phase). length x.script) q ps))
-lines_within (q ∷ ps) (suc k) p at =
-    let rest : lines_in (take k ps) + length p.script ≤ lines_in ps = lines_within ps k p at in
-    omega (arith, rest, sum_by-cons (λ (x : Phase). length x.script) q ps, sum_by-cons (λ (x : Phase). length x.script) q (take k ps))
 
 take_suc : (ps : List Phase) (k : ℕ) (p : Phase) → slice_get ps k ≡ Some p → take (suc k) ps ≡ take k ps ++ p ∷ []
 take_suc [] k p at = absurd (cc)

@@ -1,33 +1,30 @@
--- What was loaded can be run, where the daemons' lines have room.
-use Rattle.std.proofs.Common.{◌≡◌, ◌∙◌, ℕ, true, zero, suc, ◌+◌, ◌-◌, ◌≤◌, ◌<◌, List, [], ◌∷◌, length, map, refl, sym, ap, arith, subst, Ok}
+-- What was loaded can be run.
+use Rattle.std.proofs.Common.{◌≡◌, ◌∙◌, ℕ, zero, suc, ◌+◌, ◌-◌, ◌≤◌, ◌<◌, Option, Some, None, List, [], ◌∷◌, get_or, length, map, refl, sym, ap, arith, subst}
 use Rattle.std.proofs.lemmas.List.{length-map}
 use Rattle.std.specs.List.{AllByRecursion}
-use Rattle.std.specs.Prelude.{slice_index}
+use Rattle.std.specs.Prelude.{slice_get, slice_index}
 use Rattle.mr_base.specs.Outside.{Files}
 use Rattle.mr_callers.proofs.Called.{run_callers}
 use Rattle.mr_load.specs.Callers.{from_on}
 use Rattle.mr_load.specs.Dues.{Due, LaneValue, dues_from, lane_of}
 use Rattle.mr_load.specs.Loading.{packets_in, run_limits}
 use Rattle.mr_load.specs.Loads.{IsLoaded}
-use Rattle.mr_load.specs.Refusals.{loaded}
-use Rattle.mr_load.specs.Unbuilt.{is_built_script}
-use Rattle.mr_scenario.specs.declared.scenario.Script.{Script}
-use Rattle.mr_scenario.specs.declared.scenario.Script.TheVariants as script
 use Rattle.mr_load.specs.declared.loading.Loaded.{Loaded}
 use Rattle.mr_model.specs.declared.limits.Limits.{Limits}
 use Rattle.mr_model.specs.Legal.{packets_given}
 use Rattle.mr_replay.specs.Lanes.{LaneFits, LanesFit, LanesReady, lane_at}
-use Rattle.mr_replay.specs.Outcomes.{controls_due}
-use Rattle.mr_replay.specs.Daemons.{IsPlain, IsPlainLine}
-use Rattle.mr_replay.specs.Running.{CanRun}
+use Rattle.mr_load.specs.Callers.{kind_of}
+use Rattle.mr_load.specs.Machines.{machine_for}
+use Rattle.mr_replay.specs.Running.{CanRun, IsFor, MachinesFit}
+use Rattle.mr_scenario.specs.declared.scenario.DaemonKind.{DaemonKind}
+use Rattle.mr_scenario.specs.declared.scenario.DaemonKind.TheVariants.{Plain, Admin, Smc}
+use Rattle.smc_core.specs.Machine.{Machine}
 use Rattle.mr_load.proofs.LawDues.{dues_count}
 use Rattle.mr_replay.proofs.Duing.{from_all}
 use Rattle.mr_replay.proofs.Limits.{limits_fit}
-use Rattle.mr_replay.proofs.Plain.{loaded_plain}
+use Rattle.mr_replay.proofs.Plain.{lines_suit}
 use Rattle.mr_replay.proofs.Phasing.{lane_is, lanes_many, lanes_of}
-use Rattle.mr_scenario.specs.declared.scenario.Phase.{Phase}
 use Rattle.mr_scenario.specs.declared.scenario.Scenario.{Scenario}
-use Rattle.mr_scenario.specs.declared.scenario.ScriptLine.{ScriptLine}
 use Rattle.mr_scenario.specs.Fits.{Fits, IsItem}
 use Rattle.mr_scenario.specs.Spelled.{address_only}
 
@@ -64,24 +61,6 @@ lanes_fit files s vs fits same =
       each = λ n least most. subst (λ (v : LaneValue). LaneFits (run_limits files s) v) (sym (at n least most)) (lane_fits files s fits n least (omega (arith, most, many)));
     }
 
-plain_of : (x : Script) → is_built_script x ≡ true → IsPlain x
-plain_of (script.Ask r) b = tt
-plain_of (script.Raw opt bytes) b = tt
-plain_of (script.Table n) b = tt
-plain_of (script.Tick ms) b = tt
-plain_of script.Recv b = tt
-plain_of script.Start b = absurd (cc)
-plain_of (script.Poll n) b = absurd (cc)
-plain_of (script.Words bs) b = absurd (cc)
-
-lines_plain : (ls : List ScriptLine) → AllByRecursion (λ l. is_built_script l.script ≡ true) ls → AllByRecursion IsPlainLine ls
-lines_plain [] b = tt
-lines_plain (l ∷ ls) b = (plain_of l.script b.0, lines_plain ls b.1)
-
-all_plain : (ps : List Phase) → AllByRecursion (λ p. AllByRecursion (λ l. is_built_script l.script ≡ true) p.script) ps → AllByRecursion (λ p. AllByRecursion IsPlainLine p.script) ps
-all_plain [] b = tt
-all_plain (p ∷ ps) b = (lines_plain p.script b.0, all_plain ps b.1)
-
 all_from_zero : (ds : List Due) → AllByRecursion (λ d. 0 ≤ d.phase) ds
 all_from_zero [] = tt
 all_from_zero (d ∷ ds) = (omega arith, all_from_zero ds)
@@ -93,16 +72,38 @@ none_ready vs = λ n least most. record {
   ready = record { has = record { within = omega arith; sent_is = refl }; past = tt; left = all_from_zero (lane_at vs n).packets };
 }
 
--- What was loaded can be run where the daemons' lines have room.
-pub can_run : (files : Files) (file : List ℕ) (l : Loaded) → loaded files file ≡ Ok l.scenario → IsLoaded files l → controls_due l.scenario ≤ l.scenario.limits.controls → CanRun l
-can_run files file l given i room =
+-- the machines of what was loaded are idle, and stand at their places
+fits_for : (files : Files) (s : Scenario) (k : DaemonKind) → IsFor (Some k) (machine_for files s k)
+fits_for files s (Smc names) = refl
+fits_for files s Plain = tt
+fits_for files s Admin = tt
+
+fit_at : (files : Files) (s : Scenario) (ks : List DaemonKind) (i : ℕ) → i < length ks → IsFor (slice_get ks i) (get_or (map (machine_for files s) ks) i None)
+fit_at files s [] i less = absurd (omega (arith, less))
+fit_at files s (k ∷ ks) zero less = fits_for files s k
+fit_at files s (k ∷ ks) (suc i) less = fit_at files s ks i (omega (arith, less))
+
+pub machines_fit : (files : Files) (l : Loaded) → IsLoaded files l → MachinesFit l.scenario l.machines
+machines_fit files l i = record {
+  many = ap length i.machines ∙ length-map l.scenario.daemons (machine_for files l.scenario);
+  each = λ n less.
+      let next : suc n ≡ n + 1 = omega arith in
+      subst (λ (d : ℕ). IsFor (kind_of l.scenario d) (get_or l.machines n None)) next
+      (subst (λ (ms : List (Option Machine)). IsFor (slice_get l.scenario.daemons n) (get_or ms n None)) (sym i.machines) (fit_at files l.scenario l.scenario.daemons n less));
+}
+
+pub these_fit : (files : Files) (l : Loaded) (ms : List (Option Machine)) → ms ≡ l.machines → IsLoaded files l → MachinesFit l.scenario ms
+these_fit files l ms same i = subst (λ (xs : List (Option Machine)). MachinesFit l.scenario xs) (sym same) (machines_fit files l i)
+
+-- What was loaded can be run; its machines may stand elsewhere.
+pub can_run : (files : Files) (l : Loaded) (ms : List (Option Machine)) → IsLoaded files l → CanRun (record l { machines = ms })
+can_run files l ms i =
     let callers = run_callers files l.scenario i.fits in
     let s : Scenario = l.scenario in
     record {
       fits = i.fits;
       limits = limits_fit files l i;
-      lines = all_plain s.phases (loaded_plain files file s given);
-      room = omega (arith, room, ap (λ (x : Limits). x.controls) i.limits);
+      lines = lines_suit s i.fits;
       phases = ap (λ (x : Limits). x.phases) i.limits ∙ i.fits.phases;
       lanes = subst (λ (x : Limits). LanesFit x l.lanes) (sym i.limits) (lanes_fit files s l.lanes i.fits i.lanes);
       many_lanes = ap length i.lanes ∙ lanes_many files s;

@@ -1,9 +1,9 @@
 -- What the file that is asked for comes to.
-use Rattle.std.proofs.Common.{◌≡◌, ◌≤◌, ℕ, Bool, true, false, Option, Some, None, Result, Ok, Err, List, ◌++◌, length, refl, sym, ap, ◌∙◌, arith, subst, inl, inr}
-use Rattle.std.proofs.lemmas.Bool.Decides.{nat_tests}
-use Rattle.std.specs.Prelude.{IsOk, nat_le}
+use Rattle.std.proofs.Common.{◌≡◌, ◌≤◌, ◌<◌, ◌+◌, ℕ, suc, Bool, false, Option, Some, None, Result, Ok, Err, List, [], ◌++◌, length, refl, sym, ap, ◌∙◌, arith, subst, inl, inr}
+use Rattle.std.specs.Option.{option_map_or}
+use Rattle.std.specs.Prelude.{slice_get, sum_by}
 use Rattle.mr_base.specs.Outside.{Files}
-use Rattle.mr_load.specs.Refusals.{if_there, accepted, if_built, scenario_of, loaded}
+use Rattle.mr_load.specs.Refusals.{if_there, accepted, scenario_of, loaded}
 use Rattle.mr_load.specs.Told.{IsTold}
 use Rattle.mr_kernel.specs.Values.{KernelValue}
 use Rattle.mr_load.specs.Loading.{run_limits}
@@ -16,15 +16,26 @@ use Rattle.mr_load.specs.declared.loading.Loaded.{Loaded}
 use Rattle.mr_model.specs.Legal.{IsLegal}
 use Rattle.mr_model.specs.declared.limits.Limits.{Limits}
 use Rattle.mr_tail.specs.Text.{history_text}
-use Rattle.mr_load.specs.Unbuilt.{first_unbuilt}
 use Rattle.mr_load.specs.declared.status.Status.{Status}
 use Rattle.mr_load.specs.Refusals.{files_read}
 use Rattle.mr_load.specs.declared.status.Status.TheVariants as status
 use Rattle.mr_replay.specs.Egress.{EgressFile, HasWritten, IsOutput, Writing, egress_by, egress_file, egress_files, egress_names, names_of, text_by}
-use Rattle.mr_replay.specs.Endings.{CallsFor, EndsBy, IfStoreFault, ReadsAndWrites, ReadsFor, RunsTo, Replays, file_asked}
-use Rattle.mr_replay.specs.Outcomes.{controls_due, outcome_of}
+use Rattle.mr_replay.specs.Endings.{CallsFor, EndsBy, IfLoaded, IfStoreFault, ReadsAndWrites, ReadsFor, RunsTo, Replays, file_asked}
+use Rattle.mr_replay.specs.Running.{with_machines}
+use Rattle.smc_core.specs.Machine.{Machine}
 use Rattle.mr_model.specs.declared.entry.Entry.{Entry}
+use Rattle.mr_callers.proofs.Called.{run_callers}
+use Rattle.mr_load.specs.Callers.{has_machine, kind_of}
+use Rattle.mr_replay.proofs.Driving.{all_did, asked_phases, got_less}
 use Rattle.mr_replay.proofs.Egressing.{names_made}
+use Rattle.mr_scenario.specs.Fits.{Fits}
+use Rattle.mr_scenario.specs.PhaseLines.{is_smc}
+use Rattle.mr_scenario.specs.declared.scenario.DaemonKind.{DaemonKind}
+use Rattle.mr_scenario.specs.declared.scenario.DaemonKind.TheVariants.{Plain, Admin, Smc}
+use Rattle.smc_daemon.specs.Deeds.{did}
+use Rattle.smc_daemon.specs.Reaching.{Ran}
+use Rattle.smc_daemon.specs.Room.{least, lines_of}
+use Rattle.smc_daemon.proofs.Runs.{least_of_runs, room_of_legal}
 use Rattle.mr_replay.proofs.Plain.{loaded_scenario}
 use Rattle.mr_scenario.specs.Spelled.{spelled}
 use Rattle.mr_scenario.specs.declared.scenario.Scenario.{Scenario}
@@ -41,14 +52,8 @@ accepted_ok (Ok t) s e = cc
 accepted_ok (Err (error.Bad line k text)) s e = absurd (cc)
 accepted_ok (Err error.Memory) s e = absurd (cc)
 
-built_ok : (o : Option ℕ) (s t : Scenario) → if_built o s ≡ Ok t → s ≡ t
-built_ok None s t e = cc
-built_ok (Some n) s t e = absurd (cc)
-
 scenario_spelled : (bytes : List ℕ) (s : Scenario) → scenario_of bytes ≡ Ok s → spelled bytes ≡ Ok s
-scenario_spelled bytes s e =
-    let b = bind_ok (accepted (spelled bytes)) (λ t. if_built (first_unbuilt bytes t) t) s e in
-    accepted_ok (spelled bytes) s (b.1 ∙ ap Ok (built_ok (first_unbuilt bytes b.0) b.0 s b.2))
+scenario_spelled bytes s e = accepted_ok (spelled bytes) s e
 
 -- what is loaded of a file is what its bytes spell
 loaded_spelled : (files : Files) (file : List ℕ) (s : Scenario) → loaded files file ≡ Ok s → (bytes : List ℕ) × (files file ≡ Some bytes) × (spelled bytes ≡ Ok s)
@@ -56,22 +61,39 @@ loaded_spelled files file s e =
     let b = bind_ok (if_there file (files file)) scenario_of s (loaded_scenario files file s e) in
     (b.0, there_ok file (files file) b.0 b.1, scenario_spelled b.0 s b.2)
 
-runs_to : (files : Files) (file : List ℕ) (s : Scenario) (h : List Entry) → loaded files file ≡ Ok s → controls_due s ≤ s.limits.controls → IsLegal (run_limits files s) h → Made files s h → RunsTo files file s h
-runs_to files file s h e room legal made =
+-- the least that the daemons make has room
+by_lines : (files : Files) (s : Scenario) (d : ℕ) (h : List Entry) → 1 ≤ d → d ≤ length s.daemons → has_machine s d ≡ false → Made files s h → length (did d [] h) ≡ sum_by (lines_of d) s.phases
+by_lines files s d h least last none made = all_did d h h ∙ asked_phases files s d [] s.phases h least last none made.phases
+
+ran : (files : Files) (s : Scenario) (h : List Entry) (i : ℕ) (k : DaemonKind) → slice_get s.daemons i ≡ Some k → i < length s.daemons → Made files s h → Ran files s h (i + 1) k
+ran files s h i (Smc names) is less made =
+    let next : i + 1 ≡ suc i = omega arith in
+    made.machines (i + 1) names (ap (kind_of s) next ∙ is)
+ran files s h i Plain is less made =
+    let next : i + 1 ≡ suc i = omega arith in
+    by_lines files s (i + 1) h (omega arith) (omega (arith, less)) (ap (λ (o : Option DaemonKind). option_map_or is_smc o false) (ap (kind_of s) next ∙ is)) made
+ran files s h i Admin is less made =
+    let next : i + 1 ≡ suc i = omega arith in
+    by_lines files s (i + 1) h (omega arith) (omega (arith, less)) (ap (λ (o : Option DaemonKind). option_map_or is_smc o false) (ap (kind_of s) next ∙ is)) made
+
+least_fits : (files : Files) (s : Scenario) (h : List Entry) → Fits s → IsLegal (run_limits files s) h → Made files s h → least files s ≤ s.limits.controls
+least_fits files s h fits legal made =
+    let all = least_of_runs files s (run_limits files s) h (record { legal = legal; daemons = (run_callers files s fits).daemons }) (λ i k is. ran files s h i k is (got_less s.daemons i k is) made) in
+    let room = room_of_legal (run_limits files s) h legal in
+    omega (arith, all, room)
+
+runs_to : (files : Files) (file : List ℕ) (s : Scenario) (h : List Entry) → loaded files file ≡ Ok s → Fits s → IsLegal (run_limits files s) h → Made files s h → RunsTo files file s h
+runs_to files file s h e fits legal made =
     let spelt = loaded_spelled files file s e in
     record {
       bytes = spelt.0;
       stored = spelt.1;
       spells = spelt.2;
-      built = e;
-      room = room;
+      accepted = e;
+      room = least_fits files s h fits legal made;
       legal = legal;
       made = made;
     }
-
--- a test that let pass
-pub roomy : (b : Bool) (due most : ℕ) → b ≡ true → b ≡ nat_le due most → due ≤ most
-roomy b due most e same = grind (arith, nat_tests, e, same)
 
 -- what a machine gives that has run what was loaded
 text_given : (files : Files) (l : Loaded) (k : KernelValue) → IsLoaded files l → k.limits ≡ l.limits → text_by l k ≡ history_text files l.scenario k.history
@@ -90,7 +112,6 @@ pub record HasRun (words : List (List ℕ)) (told : Option Files) (files : Files
   pub told_is : IsTold told files
   pub loads : loaded files file ≡ Ok l.scenario
   pub is : IsLoaded files l
-  pub room : controls_due l.scenario ≤ l.scenario.limits.controls
   pub limits : k.limits ≡ l.limits
   pub legal : IsLegal k.limits k.history
   pub made : Made files l.scenario k.history
@@ -105,7 +126,7 @@ replays words told files file l k IsWritten r written =
       scenario = l.scenario;
       history = k.history;
       asked = record { asked = r.asked; told_is = r.told_is };
-      run = runs_to files file l.scenario k.history r.loads r.room (subst (λ (x : Limits). IsLegal x k.history) run r.legal) r.made;
+      run = runs_to files file l.scenario k.history r.loads r.is.fits (subst (λ (x : Limits). IsLegal x k.history) run r.legal) r.made;
       written = subst (λ (t : List ℕ). IsWritten t (egress_files files l.scenario k.history)) (text_given files l k r.is r.limits)
           (subst (IsWritten (text_by l k)) (egress_given files l k r.is r.limits) written);
     }
@@ -153,7 +174,7 @@ calls_written told file files l k s old between new told_is e reads writing is =
     by_status (status.Scenario line kind text) o w = absurd o
     by_status (status.Trace name cause) o w = absurd o
     by_status status.ControlFull o w = absurd o
-    by_status (status.NotBuilt line) o w = absurd o
+    by_status (status.Conf name line kind text) o w = absurd o
 
 -- the store's calls of a run that read alone
 pub calls_read : (told : Option Files) (file : List ℕ) (s : Status) (old new : List StoreCall) → (s ≡ status.Good → ⊥) → ReadsFor told file s old new → CallsFor told file s old new
@@ -165,9 +186,9 @@ calls_read told file status.Usage old new never r = r
 calls_read told file (status.Scenario line kind text) old new never r = r
 calls_read told file (status.Trace name cause) old new never r = r
 calls_read told file status.ControlFull old new never r = r
-calls_read told file (status.NotBuilt line) old new never r = r
+calls_read told file (status.Conf name line kind text) old new never r = r
 
-pub some_same : (a b : List ℕ) → ◌≡◌ {A = Option (List ℕ)} (Some a) (Some b) → a ≡ b
+some_same : (a b : List ℕ) → ◌≡◌ {A = Option (List ℕ)} (Some a) (Some b) → a ≡ b
 some_same a b e = cc
 
 pub asked_calls : (words : List (List ℕ)) (told : Option Files) (asked : List ℕ) (s : Status) (old new : List StoreCall) → file_asked words ≡ Some asked → CallsFor told asked s old new
@@ -175,19 +196,32 @@ pub asked_calls : (words : List (List ℕ)) (told : Option Files) (asked : List 
 asked_calls words told asked s old new e r file f = subst (λ (name : List ℕ). CallsFor told name s old new) (some_same asked file (sym e ∙ f)) r
 
 -- where the outside did not fail, a run that loaded and wrote ends as it should
-pub ends : (s : Status) (t : Scenario) (outcome : Result Scenario Status) → IsOutput s → outcome ≡ Ok t → (s ≡ status.SinkFault → ⊥) → IfStoreFault s (λ _. ⊥) → EndsBy s outcome
-ends status.Good t outcome o e sink store = subst IsOk (sym e) refl
-ends status.Memory t outcome o e sink store = tt
-ends (status.StoreFault name) t outcome o e sink store = store
-ends status.SinkFault t outcome o e sink store = sink refl
-ends status.Usage t outcome o e sink store = absurd o
-ends (status.Scenario line kind text) t outcome o e sink store = absurd o
-ends (status.Trace name cause) t outcome o e sink store = absurd o
-ends status.ControlFull t outcome o e sink store = absurd o
-ends (status.NotBuilt line) t outcome o e sink store = absurd o
+ends : (files : Files) (s : Status) (t : Scenario) (outcome : Result Scenario Status) → IsOutput s → outcome ≡ Ok t → least files t ≤ t.limits.controls → (s ≡ status.SinkFault → ⊥) → IfStoreFault s (λ _. ⊥) → EndsBy files s outcome
+ends files status.Good t outcome o e room sink store = subst (λ (r : Result Scenario Status). IfLoaded r (λ x. least files x ≤ x.limits.controls)) (sym e) room
+ends files status.Memory t outcome o e room sink store = tt
+ends files (status.StoreFault name) t outcome o e room sink store = store
+ends files status.SinkFault t outcome o e room sink store = sink refl
+ends files status.Usage t outcome o e room sink store = absurd o
+ends files (status.Scenario line kind text) t outcome o e room sink store = absurd o
+ends files (status.Trace name cause) t outcome o e room sink store = absurd o
+ends files status.ControlFull t outcome o e room sink store = absurd o
+ends files (status.Conf name line kind text) t outcome o e room sink store = absurd o
 
 -- what the file comes to, where the store tells
-pub outcome_is : (told : Option Files) (files its : Files) (file : List ℕ) (s : Scenario) → IsTold told files → told ≡ Some its → loaded files file ≡ Ok s → nat_le (controls_due s) s.limits.controls ≡ true → outcome_of its file ≡ Ok s
-outcome_is told files its file s t e l room =
-    let same : its ≡ files = subst (λ (o : Option Files). IsTold o files) e t in
-    rw (same, l, room) refl
+its_files : (told : Option Files) (files its : Files) → IsTold told files → told ≡ Some its → its ≡ files
+its_files told files its t e = subst (λ (o : Option Files). IsTold o files) e t
+
+-- what was loaded, with its machines taken out and given back
+pub with_its_own : (files : Files) (l : Loaded) (ms : List (Option Machine)) → ms ≡ l.machines → IsLoaded files l → IsLoaded files (with_machines l ms)
+with_its_own files l ms same i = subst (λ (xs : List (Option Machine)). IsLoaded files (with_machines l xs)) (sym same) i
+
+-- over a store that tells, what was loaded decides how a run ends
+pub ends_written : (words : List (List ℕ)) (told : Option Files) (files its : Files) (file name : List ℕ) (l : Loaded) (k : KernelValue) (s : Status) → HasRun words told files file l k → file_asked words ≡ Some name → told ≡ Some its
+    → IsOutput s → (s ≡ status.SinkFault → ⊥) → IfStoreFault s (λ _. ⊥) → EndsBy its s (loaded its name)
+ends_written words told files its file name l k s r asked tells o sink store =
+    let same : its ≡ files = its_files told files its r.told_is tells in
+    let named : file ≡ name = some_same file name (sym r.asked ∙ asked) in
+    let run : k.limits ≡ run_limits files l.scenario = r.limits ∙ r.is.limits in
+    let room : least files l.scenario ≤ l.scenario.limits.controls = least_fits files l.scenario k.history r.is.fits (subst (λ (x : Limits). IsLegal x k.history) run r.legal) r.made in
+    subst (λ (f : Files). EndsBy f s (loaded f name)) (sym same)
+    (ends files s l.scenario (loaded files name) o (subst (λ (w : List ℕ). loaded files w ≡ Ok l.scenario) named r.loads) room sink store)

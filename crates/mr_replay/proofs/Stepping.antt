@@ -1,41 +1,49 @@
 -- One phase of a run, and its end.
-use Rattle.std.proofs.Common.{◌≡◌, ◌≢◌, ◌∙◌, ℕ, zero, suc, ◌+◌, ◌-◌, ◌≤◌, ◌<◌, ◌==◌, Bool, true, false, All, Some, List, [], ◌∷◌, ◌++◌, length, get_or, map, take, take_all, refl, sym, ap, arith, append-nil, subst}
+use Rattle.std.proofs.Common.{◌≡◌, ◌≢◌, ◌∙◌, ℕ, zero, suc, ◌+◌, ◌-◌, ◌≤◌, ◌<◌, ◌==◌, Bool, true, false, All, Option, Some, None, Ok, Err, List, [], ◌∷◌, ◌++◌, length, get_or, map, take, refl, sym, ap, arith, append-nil, subst}
 use Rattle.std.proofs.lemmas.Bool.Decides.{nat_tests}
 use Rattle.std.proofs.lemmas.List.{length-append}
 use Rattle.std.proofs.lemmas.List.Elements.{All-get_or}
-use Rattle.std.specs.List.{AllByRecursion}
-use Rattle.std.specs.Prelude.{nat_le, nat_lt, slice_get}
+use Rattle.std.specs.List.{list_any}
+use Rattle.std.specs.Option.{option_map_or}
+use Rattle.std.specs.Prelude.{IsOk, OnOk, nat_le, nat_lt, slice_get}
 use mathlib.Core.List.{IsPrefix}
 use Rattle.mr_base.specs.Outside.{Files}
 use Rattle.mr_callers.specs.Joining.{MadeSoFar}
-use Rattle.mr_callers.proofs.Called.{part_called}
 use Rattle.mr_callers.proofs.Doing.{own_append}
 use Rattle.mr_callers.proofs.Joined.{asked_own, joined, sent_own}
-use Rattle.mr_load.specs.Callers.{IsCalled}
+use Rattle.mr_callers.proofs.Owning.{no_ends}
+use Rattle.mr_load.specs.Callers.{has_machine, kind_of}
 use Rattle.mr_load.specs.Dues.{LaneValue, sent_of}
 use Rattle.mr_load.specs.Loads.{IsLoaded}
-use Rattle.mr_load.specs.Made.{Made, asked, sent, to_ask}
+use Rattle.mr_load.specs.Made.{asked, sent, to_ask}
+use Rattle.mr_model.specs.declared.caller.CallError.TheVariants as call_error
 use Rattle.mr_load.specs.declared.loading.Loaded.{Loaded}
 use Rattle.mr_model.specs.declared.entry.Entry.{Entry}
 use Rattle.mr_model.specs.declared.entry.Entry.TheVariants.{EndPhase}
 use Rattle.mr_model.specs.declared.limits.Limits.{Limits}
 use Rattle.mr_model.specs.Legal.{IsLegal}
-use Rattle.mr_model.specs.Past.{controls, phases}
-use Rattle.mr_model.proofs.PushingLists.{controls_push, phases_push}
-use Rattle.mr_replay.specs.Daemons.{AllAsk, at_daemon}
+use Rattle.mr_model.specs.Past.{controls, is_end, phases}
+use Rattle.mr_model.proofs.PushingLists.{phases_push}
+use Rattle.mr_replay.specs.Daemons.{at_daemon}
+use Rattle.mr_replay.specs.Turns.{AllTurn, Stop}
 use Rattle.mr_replay.specs.Lanes.{AllSend, LanesReady, at_lane, due_in, lane_at}
-use Rattle.mr_replay.specs.Running.{CanRun, HasRun}
-use Rattle.mr_replay.proofs.Counting.{AllAsked, all_asked, controls_append}
+use Rattle.mr_replay.specs.Running.{CanRun, HasRun, IsFor, LacksIn, MachinesFit, PhaseCut, PhaseDriven, with_machines}
 use Rattle.mr_replay.proofs.Duing.{sent_at}
-use Rattle.mr_replay.proofs.Meeting.{LaneDid, daemons_did, daemons_see, lanes_did, lanes_see}
-use Rattle.mr_replay.proofs.Phasing.{lane_is, lines_next, lines_within, phase_less, phases_stay, take_phase}
+use Rattle.mr_replay.proofs.Meeting.{Did, LaneDid, daemons_did, daemons_see, lanes_did, lanes_see}
+use Rattle.mr_replay.proofs.Phasing.{lane_is, phase_less, phases_stay, take_phase}
 use Rattle.mr_replay.proofs.Ready.{none_ready}
 use Rattle.mr_authors.specs.Authors.{daemon_author, own}
 use Rattle.mr_router.specs.Callers.{DaemonValue, daemon_sees, lane_sees, new_daemons, new_lanes}
 use Rattle.mr_router.specs.Callers as router
 use Rattle.mr_router.specs.Histories.{Ends, GoesOn}
 use Rattle.mr_authors.proofs.Owning.{none_of_nobody, nothing_more, phases_own}
+use Rattle.mr_scenario.specs.PhaseLines.{is_smc}
+use Rattle.mr_scenario.specs.declared.scenario.DaemonKind.{DaemonKind}
+use Rattle.mr_scenario.specs.declared.scenario.DaemonKind.TheVariants.{Plain, Admin, Smc}
 use Rattle.mr_scenario.specs.declared.scenario.Phase.{Phase}
+use Rattle.smc_core.specs.Machine.{Machine}
+use Rattle.smc_daemon.specs.Courses.{Drives, machine_behind}
+use Rattle.smc_daemon.specs.Deeds.{did as smc_did}
 
 -- A phase has room for its end.
 pub end_room : (l : Loaded) (k : ℕ) (p : Phase) (h : List Entry) (limits : Limits) → l.limits ≡ limits → CanRun l → slice_get l.scenario.phases k ≡ Some p → phases h ≡ k → phases (own 0 h) < limits.phases
@@ -66,11 +74,11 @@ added limits h new lanes daemons e =
     no_more [] ys same = same
     no_more (x ∷ xs) ys same = no_more xs ys (cc)
 
-phase_made : (files : Files) (l : Loaded) (k : ℕ) (p : Phase) (h part : List Entry) → CanRun l → slice_get l.scenario.phases k ≡ Some p → IsLoaded files l → own 0 part ≡ [] → IsLegal l.limits (h ++ part)
+phase_made : (files : Files) (l : Loaded) (ms : List (Option Machine)) (k : ℕ) (p : Phase) (h part : List Entry) → CanRun l → slice_get l.scenario.phases k ≡ Some p → IsLoaded files (with_machines l ms) → own 0 part ≡ [] → IsLegal l.limits (h ++ part)
     → ((n : ℕ) → 1 ≤ n → n ≤ l.scenario.lanes → sent n part ≡ map sent_of (due_in k (lane_at l.lanes n).packets))
-    → ((d : ℕ) → 1 ≤ d → d ≤ length l.scenario.daemons → asked d part ≡ to_ask d p)
+    → ((d : ℕ) → 1 ≤ d → d ≤ length l.scenario.daemons → has_machine l.scenario d ≡ false → asked d part ≡ to_ask d p)
     → MadeSoFar files l.scenario (take k l.scenario.phases) h → MadeSoFar files l.scenario (take (k + 1) l.scenario.phases) ((h ++ part) ++ EndPhase ∷ [])
-phase_made files l k p h part can at i no_end legal sends asks made =
+phase_made files l ms k p h part can at i no_end legal sends asks made =
     subst (λ (ps : List Phase). MadeSoFar files l.scenario ps ((h ++ part) ++ EndPhase ∷ [])) (sym (take_phase l.scenario.phases k p at))
     (joined files l.scenario (take k l.scenario.phases) p h part (λ n. own n part) can.fits (subst (λ (x : Limits). IsLegal x (h ++ part)) i.limits legal) made (λ n. own_append n h part)
     (record {
@@ -79,43 +87,180 @@ phase_made files l k p h part can at i no_end legal sends asks made =
           sent_own n part ∙ sends n least most
           ∙ ap (λ (v : LaneValue). map sent_of (due_in k v.packets)) (ap (λ (xs : List LaneValue). lane_at xs n) i.lanes ∙ lane_is files l.scenario n least most)
           ∙ sent_at files n l.scenario.phases k p at;
-      daemons = λ d least most. asked_own d part ∙ asks d least most;
+      daemons = λ d least most none. asked_own d part ∙ asks d least most none;
     }))
 
-pub phase_runs : (l : Loaded) (k : ℕ) (p : Phase) (limits : Limits) (h new : List Entry) (lanes lanes_mid lanes_after : List router.LaneValue) (daemons daemons_mid daemons_after : List DaemonValue)
-    → l.limits ≡ limits → CanRun l → slice_get l.scenario.phases k ≡ Some p → HasRun l k h lanes daemons → AllSend k l.lanes lanes lanes_mid → AllAsk limits p.script daemons daemons_mid
+-- a daemon without a machine has none in its place
+no_machine : (o : Option DaemonKind) (m : Option Machine) → IsFor o m → option_map_or is_smc o false ≡ false → m ≡ None
+no_machine (Some (Smc names)) m f none = absurd (cc none)
+no_machine (Some Plain) None f none = refl
+no_machine (Some Plain) (Some m) f none = absurd f
+no_machine (Some Admin) None f none = refl
+no_machine (Some Admin) (Some m) f none = absurd f
+no_machine None m f none = absurd f
+
+asked_all : (limits : Limits) (p : Phase) (d : ℕ) (h part : List Entry) (m m' : Option Machine) (stop : Stop) → Did limits p d h part m m' stop → m ≡ None → IsOk stop → asked d part ≡ to_ask d p
+asked_all limits p d h part None None (Ok u) did none ok = did
+asked_all limits p d h part None None (Err e) did none ok = absurd (cc ok)
+asked_all limits p d h part None (Some m') stop did none ok = absurd did
+asked_all limits p d h part (Some m) m' stop did none ok = absurd (cc none)
+
+fit_on : (limits : Limits) (p : Phase) (d : ℕ) (h part : List Entry) (o : Option DaemonKind) (m m' : Option Machine) (stop : Stop) → IsFor o m → Did limits p d h part m m' stop → IsOk stop → IsFor o m'
+fit_on limits p d h part (Some (Smc names)) (Some m) (Some m') (Ok u) f did ok = did.2
+fit_on limits p d h part (Some (Smc names)) (Some m) (Some m') (Err e) f did ok = absurd (cc ok)
+fit_on limits p d h part (Some (Smc names)) (Some m) None stop f did ok = absurd did
+fit_on limits p d h part (Some (Smc names)) None m' stop f did ok = absurd f
+fit_on limits p d h part (Some Plain) None None stop f did ok = tt
+fit_on limits p d h part (Some Plain) None (Some m') stop f did ok = absurd did
+fit_on limits p d h part (Some Plain) (Some m) m' stop f did ok = absurd f
+fit_on limits p d h part (Some Admin) None None stop f did ok = tt
+fit_on limits p d h part (Some Admin) None (Some m') stop f did ok = absurd did
+fit_on limits p d h part (Some Admin) (Some m) m' stop f did ok = absurd f
+fit_on limits p d h part None m m' stop f did ok = absurd f
+
+driven : (limits : Limits) (p : Phase) (d : ℕ) (h part : List Entry) (o o' : Option Machine) (stop : Stop) (m : Machine) → Did limits p d h part o o' stop → IsOk stop → o ≡ Some m
+    → Drives d m p h part × (o' ≡ Some (machine_behind d m p h part))
+driven limits p d h part (Some n) (Some n') (Ok u) m did ok is =
+    let same : n ≡ m = cc is in
+    subst (λ (x : Machine). Drives d x p h part × (Some n' ≡ Some (machine_behind d x p h part))) same (did.0, ap Some did.1)
+driven limits p d h part (Some n) (Some n') (Err e) m did ok is = absurd (cc ok)
+driven limits p d h part (Some n) None stop m did ok is = absurd did
+driven limits p d h part None o' stop m did ok is = absurd (cc is)
+
+-- what a daemon lacks that stopped for want of room
+abbrev lack : Bool → ℕ
+lack true = 1
+lack false = 0
+
+lacks_in : (limits : Limits) (p : Phase) (d : ℕ) (h part : List Entry) (o o' : Option Machine) (stop : Stop) (b : Bool) → Did limits p d h part o o' stop → (b ≡ true → stop ≡ Err call_error.ControlFull) → LacksIn d p h part o (lack b)
+lacks_in limits p d h part None None (Ok u) true did is = absurd (cc (is refl))
+lacks_in limits p d h part None None (Ok u) false did is = omega (arith, ap length did)
+lacks_in limits p d h part None None (Err e) true did is = omega (arith, did.0)
+lacks_in limits p d h part None None (Err e) false did is = omega (arith, did.0)
+lacks_in limits p d h part (Some m) (Some m') (Ok u) true did is = absurd (cc (is refl))
+lacks_in limits p d h part (Some m) (Some m') (Ok u) false did is = ([], (sym did.0 ∙ sym (append-nil (smc_did d h part))), (omega arith))
+lacks_in limits p d h part (Some m) (Some m') (Err e) true did is =
+    let full : e ≡ call_error.ControlFull = cc (is refl) in
+    (did.0, did.1, (omega (arith, (did.2 full).0)))
+lacks_in limits p d h part (Some m) (Some m') (Err e) false did is = (did.0, did.1, (omega arith))
+lacks_in limits p d h part None (Some m') stop b did is = absurd did
+lacks_in limits p d h part (Some m) None stop b did is = absurd did
+
+no_room : (limits : Limits) (p : Phase) (d : ℕ) (h part : List Entry) (o o' : Option Machine) (stop : Stop) → Did limits p d h part o o' stop → stop ≡ Err call_error.ControlFull → limits.controls ≤ controls (h ++ part)
+no_room limits p d h part None None (Ok u) did is = absurd (cc is)
+no_room limits p d h part None None (Err e) did is = did.1
+no_room limits p d h part (Some m) (Some m') (Ok u) did is = absurd (cc is)
+no_room limits p d h part (Some m) (Some m') (Err e) did is = (did.2 (cc is)).1
+no_room limits p d h part None (Some m') stop did is = absurd did
+no_room limits p d h part (Some m) None stop did is = absurd did
+
+-- what holds behind a phase, by why the first daemon stopped that did
+pub record PhaseRan (l : Loaded) (k : ℕ) (h new : List Entry) (lanes_after : List router.LaneValue) (daemons_after : List DaemonValue) (ms ms' : List (Option Machine)) : Type 0 where
+  pub run : HasRun l (k + 1) new lanes_after daemons_after
+  pub machines : MachinesFit l.scenario ms'
+  pub driven : PhaseDriven k l.scenario h new ms ms'
+
+pub record PhaseEnds (l : Loaded) (k : ℕ) (h new : List Entry) (lanes_after : List router.LaneValue) (daemons_after : List DaemonValue) (ms ms' : List (Option Machine)) (stop : Stop) : Type 0 where
+  pub ran : IsOk stop → PhaseRan l k h new lanes_after daemons_after ms ms'
+  pub cut : stop ≡ Err call_error.ControlFull → PhaseCut l k h ms
+
+-- what each way to end says
+pub on_ok : (stop : Stop) (P : Type 0) → (IsOk stop → P) → OnOk stop P
+on_ok (Ok u) P f = f refl
+on_ok (Err e) P f = tt
+
+pub phase_runs : (l : Loaded) (k : ℕ) (p : Phase) (limits : Limits) (stop : Stop) (h new : List Entry) (lanes lanes_mid lanes_after : List router.LaneValue) (daemons daemons_mid daemons_after : List DaemonValue) (ms ms' : List (Option Machine))
+    → l.limits ≡ limits → CanRun l → slice_get l.scenario.phases k ≡ Some p → HasRun l k h lanes daemons → MachinesFit l.scenario ms → AllSend k l.lanes lanes lanes_mid → AllTurn limits p.script stop daemons ms daemons_mid ms'
     → Ends limits h new lanes_mid daemons_mid
     → All (λ (x : router.LaneValue). own x.lane.0 new ≡ own x.lane.0 x.seen) lanes_mid
     → All (λ (d : DaemonValue). own (daemon_author d.daemon.0) new ≡ own (daemon_author d.daemon.0) d.seen) daemons_mid
-    → lanes_after ≡ map (lane_sees new) lanes_mid → daemons_after ≡ map (daemon_sees new) daemons_mid → HasRun l (k + 1) new lanes_after daemons_after
-phase_runs l k p limits h new lanes lanes_mid lanes_after daemons daemons_mid daemons_after same can at run sends asks ends known_lanes known_daemons lanes_is daemons_is =
-    record {
-      lanes = lanes_see k l.scenario.lanes l.lanes h new lanes lanes_mid lanes_after run.lanes sends lanes_is;
-      daemons = daemons_see limits (length l.scenario.daemons) p.script h new daemons daemons_mid daemons_after run.daemons asks daemons_is;
-      ready = λ n least most. (did n least (omega (arith, most, can.many_lanes))).ready;
-      asked = omega (arith, ap controls a.is, controls_push (h ++ a.part) EndPhase, controls_append h a.part, all.few, run.asked, lines_next l.scenario.phases k p at);
-      ended = omega (arith, ap phases a.is, phases_push (h ++ a.part) EndPhase, phases_stay h a.part (h ++ a.part) refl a.no_end, run.ended);
-      made = λ files i.
-          subst (λ (es : List Entry). MadeSoFar files l.scenario (take (k + 1) l.scenario.phases) es) (sym a.is)
-          (phase_made files l k p h a.part can at i a.no_end (subst (λ (x : Limits). IsLegal x (h ++ a.part)) (sym same) a.legal) (λ n least most. (did n least most).sent_is) all.each (run.made files i));
-    }
+    → lanes_after ≡ map (lane_sees new) lanes_mid → daemons_after ≡ map (daemon_sees new) daemons_mid → PhaseEnds l k h new lanes_after daemons_after ms ms' stop
+phase_runs l k p limits stop h new lanes lanes_mid lanes_after daemons daemons_mid daemons_after ms ms' same can at run fit sends turns ends known_lanes known_daemons lanes_is daemons_is =
+    record { ran = ran; cut = cut }
   where
+    many : ℕ
+    many = length l.scenario.daemons
+
     a : Added limits h new ends.before
     a = added limits h new lanes_mid daemons_mid ends
 
-    did : (n : ℕ) → 1 ≤ n → n ≤ l.scenario.lanes → LaneDid k (lane_at l.lanes n) n a.part new
-    did = lanes_did k l.scenario.lanes l.lanes h a.part new lanes lanes_mid run.lanes sends a.is known_lanes
+    legal : IsLegal l.limits (h ++ a.part)
+    legal = subst (λ (x : Limits). IsLegal x (h ++ a.part)) (sym same) a.legal
+
+    sent_all : (n : ℕ) → 1 ≤ n → n ≤ l.scenario.lanes → LaneDid k (lane_at l.lanes n) n a.part new
+    sent_all = lanes_did k l.scenario.lanes l.lanes h a.part new lanes lanes_mid run.lanes sends a.is known_lanes
 
     begun : All (λ (d : DaemonValue). IsPrefix d.seen (h ++ a.part)) daemons_mid
     begun = subst (λ (es : List Entry). All (λ (d : DaemonValue). IsPrefix d.seen es) daemons_mid) (sym a.splits) ends.of_daemons
 
-    called : AllByRecursion (IsCalled l.scenario) a.part
-    called = part_called l.limits l.scenario [] h a.part (record { lanes = can.given_lanes; daemons = can.given_daemons }) (subst (λ (x : Limits). IsLegal x (h ++ a.part)) (sym same) a.legal)
+    did : (i : ℕ) → i < many → Did limits p (i + 1) h a.part (get_or ms i None) (get_or ms' i None) (turns.stops i)
+    did = daemons_did limits p many h a.part new stop daemons daemons_mid ms ms' run.daemons turns a.is known_daemons begun
 
-    all : AllAsked l.scenario p.script a.part
-    all =
-        all_asked l.scenario limits p.script h a.part called (omega (arith, run.asked, lines_within l.scenario.phases k p at, can.room, ap (λ (x : Limits). x.controls) same))
-        (daemons_did limits (length l.scenario.daemons) p.script h a.part new daemons daemons_mid run.daemons asks a.is known_daemons begun)
+    ok_at : IsOk stop → (i : ℕ) → i < many → IsOk (turns.stops i)
+    ok_at ok i less = turns.all ok i (omega (arith, less, run.daemons.many))
+
+    asks : IsOk stop → (d : ℕ) → 1 ≤ d → d ≤ many → has_machine l.scenario d ≡ false → asked d a.part ≡ to_ask d p
+    asks ok d least most none =
+        let i = d - 1 in
+        let next : i + 1 ≡ d = omega (arith, least) in
+        let less : i < many = omega (arith, least, most) in
+        let free : get_or ms i None ≡ None = no_machine (kind_of l.scenario (i + 1)) (get_or ms i None) (fit.each i less) (ap (has_machine l.scenario) next ∙ none) in
+        subst (λ (n : ℕ). asked n a.part ≡ to_ask n p) next
+        (asked_all limits p (i + 1) h a.part (get_or ms i None) (get_or ms' i None) (turns.stops i) (did i less) free (ok_at ok i less))
+
+    no_end : list_any is_end a.part ≡ false
+    no_end = no_ends a.part a.no_end
+
+    ran : IsOk stop → PhaseRan l k h new lanes_after daemons_after ms ms'
+    ran ok = record {
+      run = record {
+        lanes = lanes_see k l.scenario.lanes l.lanes h new lanes lanes_mid lanes_after run.lanes sends lanes_is;
+        daemons = daemons_see limits many p.script h new stop daemons daemons_mid daemons_after ms ms' run.daemons turns daemons_is;
+        ready = λ n least most. (sent_all n least (omega (arith, most, can.many_lanes))).ready;
+        ended = omega (arith, ap phases a.is, phases_push (h ++ a.part) EndPhase, phases_stay h a.part (h ++ a.part) refl a.no_end, run.ended);
+        made = λ files first i.
+            subst (λ (es : List Entry). MadeSoFar files l.scenario (take (k + 1) l.scenario.phases) es) (sym a.is)
+            (phase_made files l first k p h a.part can at i a.no_end legal (λ n least most. (sent_all n least most).sent_is) (asks ok) (run.made files first i));
+      };
+      machines = record {
+        many = turns.many_machines ∙ fit.many;
+        each = λ i less. fit_on limits p (i + 1) h a.part (kind_of l.scenario (i + 1)) (get_or ms i None) (get_or ms' i None) (turns.stops i) (fit.each i less) (did i less) (ok_at ok i less);
+      };
+      driven = record {
+        phase = p;
+        is_phase = at;
+        part = a.part;
+        no_end = no_end;
+        is = a.is;
+        drives = λ i m less is.
+            let inside : i < many = omega (arith, less, fit.many) in
+            (driven limits p (i + 1) h a.part (get_or ms i None) (get_or ms' i None) (turns.stops i) m (did i inside) (ok_at ok i inside) is).0;
+        machines = λ i m less is.
+            let inside : i < many = omega (arith, less, fit.many) in
+            (driven limits p (i + 1) h a.part (get_or ms i None) (get_or ms' i None) (turns.stops i) m (did i inside) (ok_at ok i inside) is).1;
+      };
+    }
+
+    cut : stop ≡ Err call_error.ControlFull → PhaseCut l k h ms
+    cut is =
+        let one = turns.one call_error.ControlFull is in
+        let which : ℕ = one.0 in
+        let inside : which < many = omega (arith, one.1, run.daemons.many) in
+        record {
+          phase = p;
+          is_phase = at;
+          part = a.part;
+          no_end = no_end;
+          legal = legal;
+          full = subst (λ (x : Limits). x.controls ≤ controls (h ++ a.part)) (sym same) (no_room limits p (which + 1) h a.part (get_or ms which None) (get_or ms' which None) (turns.stops which) (did which inside) one.2);
+          lacks = λ n. lack (n == which + 1);
+          each = λ i less.
+              lacks_in limits p (i + 1) h a.part (get_or ms i None) (get_or ms' i None) (turns.stops i) (i + 1 == which + 1) (did i less)
+              (λ its. let here : i ≡ which = grind (arith, its) in ap turns.stops here ∙ one.2);
+          which = which;
+          which_is = inside;
+          one = let itself : (which + 1 == which + 1) ≡ true = grind arith in rw itself (omega arith);
+        }
 
 -- the lanes and daemons of a router that was opened
 many_lanes : (n : ℕ) → length (new_lanes n) ≡ n
@@ -180,14 +325,9 @@ run_begins l h lanes daemons limits can same none lanes_are daemons_are =
         each = λ i x inside. ap (λ (xs : List DaemonValue). get_or xs i x) daemons_is ∙ new_daemon_at (length l.scenario.daemons) i x inside ∙ ap (at_daemon (i + 1)) (sym none);
       };
       ready = subst (LanesReady 0 l.lanes) (sym none) (none_ready l.lanes);
-      asked = subst (λ (es : List Entry). controls es ≤ 0) (sym none) (omega arith);
       ended = ap phases none;
-      made = λ files loaded. none;
+      made = λ files first loaded. none;
     }
-
--- all phases have run
-pub run_ends : (l : Loaded) (k : ℕ) (h : List Entry) (lanes : List router.LaneValue) (daemons : List DaemonValue) → length l.scenario.phases ≤ k → HasRun l k h lanes daemons → (files : Files) → IsLoaded files l → Made files l.scenario h
-run_ends l k h lanes daemons le run files i = subst (λ (ps : List Phase). MadeSoFar files l.scenario ps h) (take_all k l.scenario.phases le) (run.made files i)
 
 pub phase_got : (ps : List Phase) (k : ℕ) (p : Phase) → k < length ps → p ≡ get_or ps k p → slice_get ps k ≡ Some p
 phase_got [] k p less at = absurd (omega (arith, less))
@@ -268,7 +408,7 @@ close_same l k limits h end lanes daemons same can run went of_lanes of_daemons 
     none = nothing_more h more (λ n. ap (own n) went.begins.1 ∙ by_number n)
 
 -- a list that was written back over another one of its length
-taken : {X : Type 0} (n : ℕ) (xs ys : List X) → n ≡ length xs → take n (xs ++ ys) ≡ xs
+pub taken : {X : Type 0} (n : ℕ) (xs ys : List X) → n ≡ length xs → take n (xs ++ ys) ≡ xs
 taken zero [] ys same = refl
 taken (suc n) [] ys same = absurd (omega (arith, same))
 taken zero (x ∷ xs) ys same = absurd (omega (arith, same))

@@ -20,8 +20,9 @@ IsPlain (Tick ms) = Unit {0}
 IsPlain Recv = Unit {0}
 IsPlain _ = ⊥
 
-abbrev pub IsPlainLine : ScriptLine → Type 0
-IsPlainLine l = IsPlain l.script
+-- if it is daemon d's
+abbrev pub IsPlainLine : ℕ → ScriptLine → Type 0
+IsPlainLine d l = l.daemon.0 ≡ d → IsPlain l.script
 
 -- the lines of daemon d
 abbrev pub lines_by : ℕ → List ScriptLine → List Script
@@ -42,16 +43,12 @@ pub record FindsFull (limits : Limits) (old new : DaemonValue) : Type 0 where
   pub same : made_by new ≡ made_by old
   pub full : controls new.seen ≡ limits.controls
 
--- A daemon has asked fewer than all lines, since the history that it has seen has no room for more.
-pub record FindsEnd (limits : Limits) (done what : List Script) (new : DaemonValue) : Type 0 where
-  pub fewer : length done < length what
-  pub full : controls new.seen ≡ limits.controls
-
--- The daemon asks these lines, up to one for which the history has no room.
-pub record AsksAll (limits : Limits) (what : List Script) (old new : DaemonValue) : Type 0 where
+-- The daemon asks the first of these lines, and not all, since the history that it has seen then has no room for more.
+pub record FindsEnd (limits : Limits) (what : List Script) (old new : DaemonValue) : Type 0 where
   pub done : List Script
   pub asked : HasAsked done old new
-  pub rest : (done ≡ what) ⊎ FindsEnd limits done what new
+  pub fewer : length done < length what
+  pub full : controls new.seen ≡ limits.controls
 
 -- daemon n has seen this history
 abbrev pub at_daemon : ℕ → List Entry → DaemonValue
@@ -61,8 +58,3 @@ at_daemon n h = record { daemon = record { 0 = n }; seen = h }
 pub record AreDaemons (n : ℕ) (h : List Entry) (ds : List DaemonValue) : Type 0 where
   pub many : length ds ≡ n
   pub each : (i : ℕ) (d : DaemonValue) → i < n → get_or ds i d ≡ at_daemon (i + 1) h
-
--- Each daemon asks its lines, up to one for which the history has no room.
-pub record AllAsk (limits : Limits) (ls : List ScriptLine) (old new : List DaemonValue) : Type 0 where
-  pub many : length new ≡ length old
-  pub each : (i : ℕ) (d : DaemonValue) → i < length old → AsksAll limits (lines_by (i + 1) ls) (get_or old i d) (get_or new i d)

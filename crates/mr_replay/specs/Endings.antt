@@ -1,5 +1,5 @@
 -- How a run may end, and what each status says.
-use Rattle.std.specs.Prelude.{◌≡◌, ◌⊎◌, ◌≤◌, ℕ, ◌&&◌, Bool, true, false, not, nat_lt, nat_le, if◌then◌else◌, Option, Some, None, Result, Ok, Err, IsOk, Contains, List, [], ◌∷◌, length, bytes_eq, codes, take}
+use Rattle.std.specs.Prelude.{◌≡◌, ◌⊎◌, ◌≤◌, ◌<◌, ℕ, ◌&&◌, Bool, true, false, not, nat_lt, nat_le, if◌then◌else◌, Option, Some, None, Result, Ok, Err, Contains, List, [], ◌∷◌, length, bytes_eq, codes, sum, take}
 use Rattle.mr_base.specs.Outside.{Files}
 use Rattle.mr_model.specs.declared.entry.Entry.{Entry}
 use Rattle.mr_model.specs.Legal.{IsLegal}
@@ -10,7 +10,8 @@ use Rattle.mr_load.specs.declared.status.TraceCause.{TraceCause}
 use Rattle.mr_scenario.specs.declared.stop.Kind.{Kind}
 use Rattle.mr_scenario.specs.Spelled.{spelled}
 use Rattle.mr_replay.specs.Egress.{EgressFile, HasWritten, egress_files, egress_names}
-use Rattle.mr_replay.specs.Outcomes.{controls_due, outcome_of}
+use Rattle.smc_conf.specs.declared.stop.Kind.{Kind as ConfKind}
+use Rattle.smc_daemon.specs.Room.{least, most}
 use Rattle.mr_base.specs.declared.store_call.StoreCall.{StoreCall}
 use Rattle.mr_load.specs.Faults.{HasRead, cuts, fails}
 use Rattle.mr_load.specs.Refusals.{loaded}
@@ -29,14 +30,14 @@ abbrev pub file_asked : List (List ℕ) → Option (List ℕ)
 file_asked (command ∷ file ∷ []) = if bytes_eq command (codes "replay") && is_file_word file then Some file else None
 file_asked _ = None
 
--- The bytes of the file spell a scenario whose form is built and whose daemons' lines have room. The history is a legal one of it, and
--- has what the scenario asks.
+-- The bytes of the file spell a scenario whose files are accepted, and the least that its daemons make has room. The history is a
+-- legal one of it, and has what the scenario asks.
 pub record RunsTo (files : Files) (file : List ℕ) (scenario : Scenario) (history : List Entry) : Type 0 where
   pub bytes : List ℕ
   pub stored : files file ≡ Some bytes
   pub spells : spelled bytes ≡ Ok scenario
-  pub built : loaded files file ≡ Ok scenario
-  pub room : controls_due scenario ≤ scenario.limits.controls
+  pub accepted : loaded files file ≡ Ok scenario
+  pub room : least files scenario ≤ scenario.limits.controls
   pub legal : IsLegal (run_limits files scenario) history
   pub made : Made files scenario history
 
@@ -60,7 +61,20 @@ pub record ComesTo (words : List (List ℕ)) (told : Option Files) (s : Status) 
   pub files : Files
   pub file : List ℕ
   pub asked : IsAsked words told files file
-  pub outcome : outcome_of files file ≡ Err s
+  pub outcome : loaded files file ≡ Err s
+
+-- How many packets a scenario has in all its lanes.
+abbrev pub packets_in : Files → Scenario → ℕ
+packets_in files s = sum (run_limits files s).packets
+
+-- The file asked for spells a scenario whose daemons make more control entries at most than it allows.
+pub record IsFull (words : List (List ℕ)) (told : Option Files) : Type 0 where
+  pub files : Files
+  pub file : List ℕ
+  pub scenario : Scenario
+  pub asked : IsAsked words told files file
+  pub accepted : loaded files file ≡ Ok scenario
+  pub short : scenario.limits.controls < most files scenario (packets_in files scenario)
 
 -- A file of this name is one that is to be read for the file asked for.
 pub record IsToRead (words : List (List ℕ)) (told : Option Files) (name : List ℕ) : Type 0 where
@@ -117,20 +131,26 @@ abbrev pub IfTrace : Status → (List ℕ → TraceCause → Type 0) → Type 0
 IfTrace (status.Trace file cause) P = P file cause
 IfTrace _ P = Unit {0}
 
-abbrev pub IfNotBuilt : Status → (ℕ → Type 0) → Type 0
-IfNotBuilt (status.NotBuilt line) P = P line
-IfNotBuilt _ P = Unit {0}
+abbrev pub IfConf : Status → (List ℕ → ℕ → ConfKind → List ℕ → Type 0) → Type 0
+IfConf (status.Conf file line k text) P = P file line k text
+IfConf _ P = Unit {0}
 
 abbrev pub IfStoreFault : Status → (List ℕ → Type 0) → Type 0
 IfStoreFault (status.StoreFault file) P = P file
 IfStoreFault _ P = Unit {0}
 
--- Where no call of the outside failed, a run ends by what its file comes to: Good where that is a scenario that is run, else by
--- the status. Memory may run out.
-abbrev pub EndsBy : Status → Result Scenario Status → Type 0
-EndsBy status.Good outcome = IsOk outcome
-EndsBy status.Memory outcome = Unit {0}
-EndsBy status.Usage outcome = ⊥
-EndsBy (status.StoreFault file) outcome = ⊥
-EndsBy status.SinkFault outcome = ⊥
-EndsBy s outcome = outcome ≡ Err s
+-- the file asked for spells a scenario of which this is true
+abbrev pub IfLoaded : Result Scenario Status → (Scenario → Type 0) → Type 0
+IfLoaded (Ok s) P = P s
+IfLoaded (Err s) P = ⊥
+
+-- Where no call of the outside failed, a run ends by what its file comes to: Good where that is a scenario whose daemons have room
+-- for the least that they make, ControlFull where it has none for the most; else by the status. Memory may run out.
+abbrev pub EndsBy : Files → Status → Result Scenario Status → Type 0
+EndsBy files status.Good outcome = IfLoaded outcome (λ s. least files s ≤ s.limits.controls)
+EndsBy files status.ControlFull outcome = IfLoaded outcome (λ s. s.limits.controls < most files s (packets_in files s))
+EndsBy files status.Memory outcome = Unit {0}
+EndsBy files status.Usage outcome = ⊥
+EndsBy files (status.StoreFault file) outcome = ⊥
+EndsBy files status.SinkFault outcome = ⊥
+EndsBy files s outcome = outcome ≡ Err s

@@ -1,6 +1,6 @@
-pub mod Outcomes
 pub mod Egress
 pub mod Endings
 pub mod Lanes
 pub mod Daemons
+pub mod Turns
 pub mod Running

@@ -3,7 +3,7 @@
 ghost use Rattle.std.specs.Prelude.{◌≡◌, OnOk, OnErr, length};
 ghost use Rattle.std.specs.List.{AllByRecursion};
 ghost use Rattle.mr_load.specs.Made.{of_daemon};
-ghost use Rattle.mr_replay.specs.Daemons.{AsksAll, FindsFull, HasAsked, IsPlain, IsPlainLine, lines_by};
+ghost use Rattle.mr_replay.specs.Daemons.{FindsEnd, FindsFull, HasAsked, IsPlain, IsPlainLine, lines_by};
 
 use crate::calling::ask;
 use mr_base::ControlFull;
@@ -27,7 +27,7 @@ fn ask_own<B: BookName, C: RunName, R: Wait>(
     line: &ScriptLine,
 ) -> Result<(), ControlFull>
     requires number { daemon.old.daemon.0 ≡ number }
-    requires plain { IsPlainLine line.now }
+    requires plain { IsPlainLine number line.now }
     ensures asks { OnOk result (HasAsked (of_daemon number line.now) daemon.old daemon.new) }
     ensures full { OnErr result (FindsFull C.limits daemon.old daemon.new) }
     ensures its { OnErr result (length (of_daemon number line.now) ≡ 1) }
@@ -39,6 +39,10 @@ fn ask_own<B: BookName, C: RunName, R: Wait>(
 }
 
 /// The lines of one daemon, one after another, up to one for which the history has no room.
+///
+/// # Errors
+///
+/// [`ControlFull`] where the history has no room for one of them.
 pub fn ask_lines<B: BookName, C: RunName, R: Wait>(
     rt: &R,
     alloc: Global,
@@ -46,14 +50,17 @@ pub fn ask_lines<B: BookName, C: RunName, R: Wait>(
     daemon: &mut Daemon<B, C>,
     number: u32,
     script: &[ScriptLine],
-)
+) -> Result<(), ControlFull>
     requires number { daemon.old.daemon.0 ≡ number }
-    requires lines { AllByRecursion IsPlainLine script.now }
-    ensures { AsksAll C.limits (lines_by number script.now) daemon.old daemon.new }
+    requires lines { AllByRecursion (IsPlainLine number) script.now }
+    ensures asks { OnOk result (HasAsked (lines_by number script.now) daemon.old daemon.new) }
+    ensures full { OnErr result (FindsEnd C.limits (lines_by number script.now) daemon.old
+        daemon.new) }
 {
     for line in script {
         let Ok(()) = ask_own(rt, alloc, router, daemon, number, line) else {
-            return;
+            return Err(ControlFull);
         };
     }
+    Ok(())
 }

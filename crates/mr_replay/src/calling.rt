@@ -63,8 +63,8 @@ fn receive<B: BookName, C: RunName, R: Wait>(
     }
 }
 
-/// A daemon asks what a line of its script says. It is none of an smcroute daemon, whose forms are
-/// not built yet.
+/// A daemon without a routing machine asks what a line of its script says, which is none for a
+/// machine.
 ///
 /// # Errors
 ///

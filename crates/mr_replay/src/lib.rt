@@ -4,14 +4,15 @@
 
 mod asking;
 mod calling;
+mod daemons;
 mod egress;
 mod outputs;
-mod room;
 mod running;
 mod sending;
 #[cfg(test)]
 mod tests;
 mod top;
+mod turns;
 mod writing;
 
 pub use mr_load::{Loaded, MOST_TRACE_BYTES, Status, TraceCause, load};

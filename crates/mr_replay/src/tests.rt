@@ -82,7 +82,8 @@ fn statuses(rt: HostRuntime) -> Result<(), Fail> {
         ("replay out-1", "scenario 1\n", 1),
         ("replay f", "scenario 2\n", 2),
         ("replay g", "scenario 1\n", 4),
-        ("replay f", "scenario 1\nsmc a.conf\n", 12),
+        ("replay f", "scenario 1\nsmc a.conf\n", 4),
+        ("replay f", "scenario 1\nsmc f\n", 11),
         (
             "replay f",
             "scenario 1\nlimit control 1\ndaemon admin\nphase\ndaemon 1 init\ndaemon 1 recv\n",

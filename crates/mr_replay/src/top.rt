@@ -6,17 +6,18 @@ ghost use Rattle.mr_base.specs.Outside.{Files, Rose, AllStay, Takes, TakesPrefix
 ghost use Rattle.mr_replay.specs.Egress.{Stores, StoresFirst, StopsAt, failed_write};
 ghost use Rattle.mr_replay.specs.Endings.{is_file_word, file_asked, Replays, ComesTo, IsToRead};
 ghost use Rattle.mr_replay.specs.Endings.{CallsFor, EndsBy, is_silent, keeps_files};
-ghost use Rattle.mr_replay.specs.Endings.{IfScenario, IfTrace, IfNotBuilt, IfStoreFault};
+ghost use Rattle.mr_replay.specs.Endings.{IfConf, IfScenario, IfStoreFault, IfTrace, IsFull};
 ghost use Rattle.mr_load.specs.Faults.{failed_read};
-ghost use Rattle.mr_replay.specs.Outcomes.{outcome_of};
+ghost use Rattle.mr_load.specs.Refusals.{loaded};
 ghost use Rattle.mr_load.specs.declared.status.Status.TheVariants as status;
 
 use crate::outputs::write_outputs;
-use crate::room::has_room;
 use crate::running::run_loaded;
-use mr_base::{Clock, Door, Gate, Memory, Sink, Store};
+use mr_base::{Clock, Door, Gate, List, Sink, Store};
 use mr_load::{Status, load};
+use mr_model::CallError;
 use std::alloc::Global;
+use std::mem;
 use std::sync::Wait;
 use std::thread::Threads;
 
@@ -53,12 +54,12 @@ fn file_asked(words: &[String]) -> Option<&str>
 /// are `Usage`.
 ///
 /// The statuses in their order: `Usage`; those of loading, which are `StoreFault`, where the scenario
-/// cannot be read, `Scenario` with its first bad line, `NotBuilt` with the first line whose form is
-/// not built yet, and then for each trace that lines name, in the order of first naming,
-/// `StoreFault` and `Trace`; `ControlFull`, where the daemons' lines are more than the scenario's
-/// limit; `SinkFault`, with which no file is written; `StoreFault` of an egress file, with which
-/// those behind it are not written. `Memory` may come wherever memory is taken: before the text, or
-/// between one egress file and the next.
+/// cannot be read, `Scenario` with its first bad line, and then for each further file that daemons or
+/// lines name, in the order of first naming, `StoreFault`, and then `Conf` or `Trace`; `ControlFull`,
+/// where a daemon needs a control entry and the scenario's limit allows no more, and `Memory`;
+/// `SinkFault`, with which no file is written; `StoreFault` of an egress file, with which those
+/// behind it are not written. `Memory` may come wherever memory is taken: before the text, or between
+/// one egress file and the next.
 ///
 /// In each phase each lane and each daemon has a thread of its own, and a lane asks the gate before
 /// each packet; one for which no thread can be made is run by the caller. The history is one of
@@ -87,12 +88,14 @@ pub fn run<R: Wait + Threads + Sync, S: Store, K: Sink, D: Door, C: Clock, G: Ga
     // The first trace that is no accepted one, or is too much with those before it, and why.
     ensures trace { IfTrace result (λ file cause.
         ComesTo (map string_bytes words.now) (S.told store.old) (status.Trace file cause)) }
-    // The first line of the file whose form is not built.
-    ensures not_built { IfNotBuilt result (λ line.
-        ComesTo (map string_bytes words.now) (S.told store.old) (status.NotBuilt line)) }
-    // The lines of the daemons are more than the limit on control entries.
+    // The first configuration that is no accepted one, its first bad line, what is wrong with it,
+    // and how it begins.
+    ensures conf { IfConf result (λ file line kind text.
+        ComesTo (map string_bytes words.now) (S.told store.old) (status.Conf file line kind text)) }
+    // The limit on control entries is less than the most that the daemons make. Without routing
+    // machines that is the number of their lines.
     ensures control_full { result ≡ status.ControlFull →
-        ComesTo (map string_bytes words.now) (S.told store.old) status.ControlFull }
+        IsFull (map string_bytes words.now) (S.told store.old) }
     // The store's last call failed, and its count rose: the read of this file, or its write.
     ensures store_last { IfStoreFault result (λ name.
         (S.last store.new ≡ failed_read name) ⊎ (S.last store.new ≡ failed_write name)) }
@@ -121,17 +124,19 @@ pub fn run<R: Wait + Threads + Sync, S: Store, K: Sink, D: Door, C: Clock, G: Ga
         ⊎ Replays (map string_bytes words.now) (S.told store.old) (λ text egress.
         Takes (K.taken out.old) text (K.taken out.new)
         × StoresFirst egress (S.told store.old) (S.told store.new)) }
-    // Over a store that tells, and where no count of faults rose, its files decide the status.
+    // Over a store that tells, and where no count of faults rose, its files decide the status: Good
+    // comes only where the least that the daemons make is within the limit on control entries, and
+    // `ControlFull` only where the most is not. Without routing machines that is the same number.
     ensures complete { (files : Files) (file : List ℕ) →
         file_asked (map string_bytes words.now) ≡ Some file →
         S.told store.old ≡ Some files →
         (Rose (S.faults store.old) (S.faults store.new) → ⊥) →
         (Rose (K.faults out.old) (K.faults out.new) → ⊥) →
-        EndsBy result (outcome_of files file) }
+        EndsBy files result (loaded files file) }
     // With the other statuses nothing is written, and without the text no file changes.
     ensures silent { is_silent result ≡ true → out.new ≡ out.old }
     ensures files { keeps_files result ≡ true → AllStay (S.told store.old) (S.told store.new) }
-    // The file asked for and the traces that it names are read, each once, and then the egress files
+    // The file asked for and the files that it names are read, each once, and then the egress files
     // written, each once; the last call failed exactly with StoreFault.
     ensures calls { (file : List ℕ) → file_asked (map string_bytes words.now) ≡ Some file →
         CallsFor (S.told store.old) file result (S.calls store.old) (S.calls store.new) }
@@ -143,18 +148,17 @@ pub fn run<R: Wait + Threads + Sync, S: Store, K: Sink, D: Door, C: Clock, G: Ga
     let Some(file) = file_asked(words) else {
         return Status::Usage;
     };
-    let loaded = match load(alloc, file, false, store) {
+    let mut loaded = match load(alloc, file, false, store) {
         Ok(loaded) => loaded,
         Err(status) => return status,
     };
-    if !has_room(&loaded.scenario) {
-        return Status::ControlFull;
-    }
-    match run_loaded(rt, alloc, &loaded, gate) {
+    let machines = mem::replace(&mut loaded.machines, List(Vec::new(alloc)));
+    match run_loaded(rt, alloc, &loaded, machines.0, gate) {
         Ok(kernel) => {
             kernel.facts();
             write_outputs(alloc, &loaded, &kernel, store, out)
         }
-        Err(Memory) => Status::Memory,
+        Err(CallError::ControlFull) => Status::ControlFull,
+        Err(CallError::Memory) => Status::Memory,
     }
 }

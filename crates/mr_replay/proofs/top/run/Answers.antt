@@ -1,33 +1,34 @@
-use Rattle.std.proofs.Common.{◌≡◌, ◌∙◌, ℕ, List, Ok, map, inr, refl, subst, sym}
+use Rattle.std.proofs.Common.{◌∙◌, map, inr, refl, subst, sym}
 use Rattle.mr_base.specs.Outside.{AllStay}
 use Rattle.mr_replay.proofs.Egressing.{rose_still}
-use Rattle.mr_replay.proofs.Ending.{at_fault, either, if_fault, keeps_sink, no_full, no_read, no_scenario, no_silent, no_trace, no_unbuilt, no_usage, not_both, sink_stays, wrote_cut, wrote_first, wrote_good, wrote_until}
-use Rattle.mr_replay.proofs.Ready.{can_run}
-use Rattle.mr_replay.proofs.Replaying.{asked_calls, calls_written, ends, outcome_is, replays, roomy, some_same}
+use Rattle.mr_replay.proofs.Ending.{at_fault, either, if_fault, keeps_sink, no_conf, no_full, no_read, no_scenario, no_silent, no_trace, no_usage, not_both, sink_stays, wrote_cut, wrote_first, wrote_good, wrote_until}
+use Rattle.mr_replay.proofs.Ready.{can_run, these_fit}
+use Rattle.mr_replay.proofs.Replaying.{asked_calls, calls_written, ends_written, replays, with_its_own}
 use Rattle.mr_replay.specs.Egress.{egress_by, text_by}
-use Rattle.mr_replay.specs.Outcomes.{outcome_of}
 use Rattle.std.specs.Prelude.{string_bytes}
 use Rattle.mr_replay.proofs.top.run.Goals as goal
 
 pub run_loaded-requires : goal.run_loaded-requires
 run_loaded-requires g c =
-    let can = can_run c.in-Ok.ensures.loads.files c.in-Some.file.now c.in-Ok.loaded c.in-Ok.ensures.loads.loads.0 c.in-Ok.ensures.loads.loads.1 (roomy c.has_room.result _ _ c.if-not-has_room.false c.has_room.ensures) in
-    (record { shared = c.type_bounds.sync-R.shared }, (record { shared = c.type_bounds.sync-G.shared }, can))
+    let files = c.in-Ok.ensures.loads.files in
+    let is = c.in-Ok.ensures.loads.loads.1 in
+    let machines = these_fit files c.in-Ok.loaded c.machines.inside.0.items (c.machines.view_is ∙ c.replace-machines.ensures.value) is in
+    (record { shared = c.type_bounds.sync-R.shared }, (record { shared = c.type_bounds.sync-G.shared }, (can_run files c.in-Ok.loaded c.replace-machines.new.dest is, machines)))
 
 pub write_outputs-requires : goal.write_outputs-requires
-write_outputs-requires g c = can_run c.in-Ok.ensures.loads.files c.in-Some.file.now c.in-Ok.loaded c.in-Ok.ensures.loads.loads.0 c.in-Ok.ensures.loads.loads.1 (roomy c.has_room.result _ _ c.if-not-has_room.false c.has_room.ensures)
+write_outputs-requires g c = can_run c.in-Ok.ensures.loads.files c.in-Ok.loaded c.replace-machines.new.dest c.in-Ok.ensures.loads.loads.1
 
 pub returns-in-Ok-run_loaded-clause-good : goal.returns-in-Ok-run_loaded-clause-good
 returns-in-Ok-run_loaded-clause-good g c =
     λ e. replays _ (g.S.Store.told c.args.store.now) c.in-Ok.ensures.loads.files c.in-Some.file.now c.in-Ok.loaded c.in-Ok-run_loaded.kernel _
-    (record { asked = c.in-Some.ensures.asked; told_is = c.in-Ok.ensures.loads.told_is; loads = c.in-Ok.ensures.loads.loads.0; is = c.in-Ok.ensures.loads.loads.1; room = (roomy c.has_room.result _ _ c.if-not-has_room.false c.has_room.ensures); limits = c.in-Ok-run_loaded.ensures.limits; legal = c.facts.ensures.legal; made = c.in-Ok-run_loaded.ensures.made c.in-Ok.ensures.loads.files c.in-Ok.ensures.loads.loads.1 })
+    (record { asked = c.in-Some.ensures.asked; told_is = c.in-Ok.ensures.loads.told_is; loads = c.in-Ok.ensures.loads.loads.0; is = c.in-Ok.ensures.loads.loads.1; limits = c.in-Ok-run_loaded.ensures.limits; legal = c.facts.ensures.legal; made = c.in-Ok-run_loaded.ensures.made c.in-Ok.ensures.loads.files (with_its_own c.in-Ok.ensures.loads.files c.in-Ok.loaded c.machines.inside.0.items (c.machines.view_is ∙ c.replace-machines.ensures.value) c.in-Ok.ensures.loads.loads.1) })
     (wrote_good c.write_outputs.result _ (g.K.Sink.taken c.args.out.now) (g.K.Sink.taken c.write_outputs.new.out) (g.S.Store.told c.args.store.now) (g.S.Store.told c.load.new.store) (g.S.Store.told c.write_outputs.new.store)
     (text_by c.in-Ok.loaded c.in-Ok-run_loaded.kernel) (egress_by c.in-Ok.loaded c.in-Ok-run_loaded.kernel) c.load.ensures.files e c.write_outputs.ensures.written)
 
 pub returns-in-Ok-run_loaded-clause-sink_fault : goal.returns-in-Ok-run_loaded-clause-sink_fault
 returns-in-Ok-run_loaded-clause-sink_fault g c =
     λ e. replays _ (g.S.Store.told c.args.store.now) c.in-Ok.ensures.loads.files c.in-Some.file.now c.in-Ok.loaded c.in-Ok-run_loaded.kernel _
-    (record { asked = c.in-Some.ensures.asked; told_is = c.in-Ok.ensures.loads.told_is; loads = c.in-Ok.ensures.loads.loads.0; is = c.in-Ok.ensures.loads.loads.1; room = (roomy c.has_room.result _ _ c.if-not-has_room.false c.has_room.ensures); limits = c.in-Ok-run_loaded.ensures.limits; legal = c.facts.ensures.legal; made = c.in-Ok-run_loaded.ensures.made c.in-Ok.ensures.loads.files c.in-Ok.ensures.loads.loads.1 })
+    (record { asked = c.in-Some.ensures.asked; told_is = c.in-Ok.ensures.loads.told_is; loads = c.in-Ok.ensures.loads.loads.0; is = c.in-Ok.ensures.loads.loads.1; limits = c.in-Ok-run_loaded.ensures.limits; legal = c.facts.ensures.legal; made = c.in-Ok-run_loaded.ensures.made c.in-Ok.ensures.loads.files (with_its_own c.in-Ok.ensures.loads.files c.in-Ok.loaded c.machines.inside.0.items (c.machines.view_is ∙ c.replace-machines.ensures.value) c.in-Ok.ensures.loads.loads.1) })
     (wrote_cut c.write_outputs.result _ (g.K.Sink.taken c.args.out.now) (g.K.Sink.taken c.write_outputs.new.out) (g.S.Store.told c.load.new.store) (g.S.Store.told c.write_outputs.new.store)
     (text_by c.in-Ok.loaded c.in-Ok-run_loaded.kernel) (egress_by c.in-Ok.loaded c.in-Ok-run_loaded.kernel) e c.write_outputs.ensures.written)
 
@@ -37,12 +38,12 @@ returns-in-Ok-run_loaded-clause-memory g c =
     (text_by c.in-Ok.loaded c.in-Ok-run_loaded.kernel) (egress_by c.in-Ok.loaded c.in-Ok-run_loaded.kernel) c.load.ensures.files e c.write_outputs.ensures.written)
     (λ n. (n.0, subst (λ x. AllStay (g.S.Store.told c.args.store.now) (g.S.Store.told x)) (sym n.1) c.load.ensures.files))
     (replays _ (g.S.Store.told c.args.store.now) c.in-Ok.ensures.loads.files c.in-Some.file.now c.in-Ok.loaded c.in-Ok-run_loaded.kernel _
-    (record { asked = c.in-Some.ensures.asked; told_is = c.in-Ok.ensures.loads.told_is; loads = c.in-Ok.ensures.loads.loads.0; is = c.in-Ok.ensures.loads.loads.1; room = (roomy c.has_room.result _ _ c.if-not-has_room.false c.has_room.ensures); limits = c.in-Ok-run_loaded.ensures.limits; legal = c.facts.ensures.legal; made = c.in-Ok-run_loaded.ensures.made c.in-Ok.ensures.loads.files c.in-Ok.ensures.loads.loads.1 }))
+    (record { asked = c.in-Some.ensures.asked; told_is = c.in-Ok.ensures.loads.told_is; loads = c.in-Ok.ensures.loads.loads.0; is = c.in-Ok.ensures.loads.loads.1; limits = c.in-Ok-run_loaded.ensures.limits; legal = c.facts.ensures.legal; made = c.in-Ok-run_loaded.ensures.made c.in-Ok.ensures.loads.files (with_its_own c.in-Ok.ensures.loads.files c.in-Ok.loaded c.machines.inside.0.items (c.machines.view_is ∙ c.replace-machines.ensures.value) c.in-Ok.ensures.loads.loads.1) }))
 
 pub returns-in-Ok-run_loaded-clause-write_fault : goal.returns-in-Ok-run_loaded-clause-write_fault
 returns-in-Ok-run_loaded-clause-write_fault g c =
     if_fault c.write_outputs.result _ (λ name e. λ last. replays _ (g.S.Store.told c.args.store.now) c.in-Ok.ensures.loads.files c.in-Some.file.now c.in-Ok.loaded c.in-Ok-run_loaded.kernel _
-    (record { asked = c.in-Some.ensures.asked; told_is = c.in-Ok.ensures.loads.told_is; loads = c.in-Ok.ensures.loads.loads.0; is = c.in-Ok.ensures.loads.loads.1; room = (roomy c.has_room.result _ _ c.if-not-has_room.false c.has_room.ensures); limits = c.in-Ok-run_loaded.ensures.limits; legal = c.facts.ensures.legal; made = c.in-Ok-run_loaded.ensures.made c.in-Ok.ensures.loads.files c.in-Ok.ensures.loads.loads.1 })
+    (record { asked = c.in-Some.ensures.asked; told_is = c.in-Ok.ensures.loads.told_is; loads = c.in-Ok.ensures.loads.loads.0; is = c.in-Ok.ensures.loads.loads.1; limits = c.in-Ok-run_loaded.ensures.limits; legal = c.facts.ensures.legal; made = c.in-Ok-run_loaded.ensures.made c.in-Ok.ensures.loads.files (with_its_own c.in-Ok.ensures.loads.files c.in-Ok.loaded c.machines.inside.0.items (c.machines.view_is ∙ c.replace-machines.ensures.value) c.in-Ok.ensures.loads.loads.1) })
     (wrote_until c.write_outputs.result name _ (g.K.Sink.taken c.args.out.now) (g.K.Sink.taken c.write_outputs.new.out) (g.S.Store.told c.args.store.now) (g.S.Store.told c.load.new.store) (g.S.Store.told c.write_outputs.new.store)
     (text_by c.in-Ok.loaded c.in-Ok-run_loaded.kernel) (egress_by c.in-Ok.loaded c.in-Ok-run_loaded.kernel) c.load.ensures.files e c.write_outputs.ensures.written))
 
@@ -100,14 +101,13 @@ pub returns-in-Ok-run_loaded-clause-trace : goal.returns-in-Ok-run_loaded-clause
 returns-in-Ok-run_loaded-clause-trace g c =
     no_trace c.write_outputs.result _ c.write_outputs.ensures.only
 
-pub returns-in-Ok-run_loaded-clause-not_built : goal.returns-in-Ok-run_loaded-clause-not_built
-returns-in-Ok-run_loaded-clause-not_built g c =
-    no_unbuilt c.write_outputs.result _ c.write_outputs.ensures.only
+pub returns-in-Ok-run_loaded-clause-conf : goal.returns-in-Ok-run_loaded-clause-conf
+returns-in-Ok-run_loaded-clause-conf g c =
+    no_conf c.write_outputs.result _ c.write_outputs.ensures.only
 
 pub returns-in-Ok-run_loaded-clause-complete : goal.returns-in-Ok-run_loaded-clause-complete
 returns-in-Ok-run_loaded-clause-complete g c =
-    λ its file asked told ns nk. ends c.write_outputs.result c.in-Ok.loaded.scenario (outcome_of its file) c.write_outputs.ensures.only
-    (subst (λ (w : List ℕ). outcome_of its w ≡ Ok c.in-Ok.loaded.scenario) (some_same _ file (sym c.in-Some.ensures.asked ∙ asked))
-    (outcome_is (g.S.Store.told c.args.store.now) c.in-Ok.ensures.loads.files its c.in-Some.file.now c.in-Ok.loaded.scenario c.in-Ok.ensures.loads.told_is told c.in-Ok.ensures.loads.loads.0 (sym c.has_room.ensures ∙ c.if-not-has_room.false)))
-    (λ sink. nk (c.write_outputs.ensures.sink_rose sink))
+    λ its file asked told ns nk. ends_written (map string_bytes c.args.words.now) (g.S.Store.told c.args.store.now) c.in-Ok.ensures.loads.files its c.in-Some.file.now file c.in-Ok.loaded c.in-Ok-run_loaded.kernel c.write_outputs.result
+    (record { asked = c.in-Some.ensures.asked; told_is = c.in-Ok.ensures.loads.told_is; loads = c.in-Ok.ensures.loads.loads.0; is = c.in-Ok.ensures.loads.loads.1; limits = c.in-Ok-run_loaded.ensures.limits; legal = c.facts.ensures.legal; made = c.in-Ok-run_loaded.ensures.made c.in-Ok.ensures.loads.files (with_its_own c.in-Ok.ensures.loads.files c.in-Ok.loaded c.machines.inside.0.items (c.machines.view_is ∙ c.replace-machines.ensures.value) c.in-Ok.ensures.loads.loads.1) })
+    asked told c.write_outputs.ensures.only (λ sink. nk (c.write_outputs.ensures.sink_rose sink))
     (if_fault c.write_outputs.result _ (λ name e. ns (at_fault c.write_outputs.result _ name e (rose_still c.write_outputs.result _ _ _ (c.in-Ok.ensures.good refl) c.write_outputs.ensures.rose))))
