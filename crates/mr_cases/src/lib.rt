@@ -12,6 +12,8 @@ mod tests_lanes;
 #[cfg(test)]
 mod tests_refused;
 #[cfg(test)]
+mod tests_smcroute;
+#[cfg(test)]
 mod tests_threads;
 #[cfg(test)]
 mod tests_traces;

@@ -65,7 +65,7 @@ pub fn replayed<R: AllocGlobal + Wait + Threads + Sync>(
 pub fn told(status: &Status) -> (u8, u32, u8) {
     match status {
         Status::Scenario { line, kind, .. } => (2, *line, kind.number()),
-        Status::NotBuilt { line } => (12, *line, 0),
+        Status::Conf { line, kind, .. } => (11, *line, kind.number()),
         other => (other.number(), 0, 0),
     }
 }
@@ -325,7 +325,7 @@ fn sink_asked(rt: HostRuntime) -> Result<(), Fail> {
     let cases = [
         ("replay f", "scenario 1\nphase\n", 5, 1),
         ("replay f", "scenario 2\n", 2, 0),
-        ("replay f", "scenario 1\nsmc a.conf\n", 12, 0),
+        ("replay f", "scenario 1\nsmc a.conf\n", 4, 0),
         (
             "replay f",
             "scenario 1\nlimit control 1\ndaemon plain\nphase\ndaemon 1 init\ndaemon 1 init\n",

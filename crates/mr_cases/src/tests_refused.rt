@@ -1,9 +1,5 @@
 use crate::tests::refused;
-use std::alloc::AllocError;
-use std::process::Abort;
-use std::sync::Wait;
 use std::test::Fail;
-use std::thread::Threads;
 
 #[test]
 fn bad_lines(rt: HostRuntime) -> Result<(), Fail> {
@@ -35,7 +31,7 @@ fn bad_lines(rt: HostRuntime) -> Result<(), Fail> {
             10,
         ),
         ("scenario 1\nsmc a/b\n", 2, 12),
-        // A bad line comes before lines that are not built and before want of room.
+        // A bad line comes before configurations that are not there and before want of room.
         ("scenario 1\nsmc a.conf\nlanes 17\n", 3, 3),
         (
             "scenario 1\nlimit control 1\ndaemon plain\nphase\ndaemon 1 recv\ndaemon 1 init\nlanes 2\n",
@@ -50,41 +46,6 @@ fn bad_lines(rt: HostRuntime) -> Result<(), Fail> {
     ];
     for (text, line, kind) in cases {
         assert_eq!(rt; refused(&rt, text)?, ((2, line, kind), 0), "at {text}");
-    }
-    Ok(())
-}
-
-/// Checks that a scenario is not built from a line on.
-fn check_not_built<R: AllocGlobal + Abort + Wait + Threads + Sync>(
-    rt: &R,
-    text: &str,
-    line: u32,
-) -> Result<(), AllocError> {
-    assert_eq!(rt; refused(rt, text)?, ((12, line, 0), 0), "at {text}");
-    Ok(())
-}
-
-#[test]
-fn lines_not_built(rt: HostRuntime) -> Result<(), Fail> {
-    let cases = [
-        ("scenario 1\nsmc a.conf\n", 2),
-        (
-            "scenario 1\n# smc\n\n\tsmc a.conf # all\r\ndaemon plain\n",
-            4,
-        ),
-        ("scenario 1\nsmc a.conf\nsmc b.conf\n", 2),
-        (
-            "scenario 1\ndaemon plain\nsmc a.conf\nphase\ndaemon 1 recv\ndaemon 2 start\ndaemon 2 poll 3\ndaemon 2 tick 5\ndaemon 2 smc show\n",
-            3,
-        ),
-        // Before traces that are not there, and before want of room.
-        (
-            "scenario 1\nlimit control 1\ndevice a 10.0.0.1\nsmc a.conf\nphase\nlane 1 trace a in.pcap\ndaemon 1 start\n",
-            4,
-        ),
-    ];
-    for (text, line) in cases {
-        check_not_built(&rt, text, line)?;
     }
     Ok(())
 }

@@ -1,5 +1,6 @@
 //! What a status that is not Good means, as one line on standard error.
 
+use crate::bad_conf::explain_conf;
 use crate::form::{form, limit};
 use crate::shown::shown;
 use mr_base::{DEFAULT_CONTROLS, LONGEST_FILE, MOST_ITEMS};
@@ -7,22 +8,8 @@ use mr_replay::{MOST_TRACE_BYTES, Status, TraceCause};
 use mr_scenario::Kind;
 use std::alloc::{AllocError, Global};
 use std::fs::File;
-use std::io::Read;
 use std::rt::Files;
 use std::{fs, io};
-
-/// What is built of scenarios.
-const BUILT: &str = "all lines of lanes, and of plain and admin daemons";
-
-/// A line of a file, counted from 1.
-fn line_at(bytes: &[u8], line: u32) -> &[u8] {
-    let index = line.saturating_sub(1) as usize;
-    match bytes.split(|b| *b == b'\n').nth(index) {
-        Some([front @ .., b'\r']) => front,
-        Some(found) => found,
-        None => &[],
-    }
-}
 
 /// What is bad in a line with a mistake of this kind.
 fn subject(kind: Kind) -> &'static str {
@@ -81,18 +68,6 @@ pub fn mistake(alloc: Global, found: &[u8], kind: Kind) -> Result<String, AllocE
     format!(in alloc; "bad {what} '{word}' ({wanted})")
 }
 
-/// The bytes of the scenario as it is now, for a line that is not built. A pipe gives its bytes once, so
-/// only a plain file is read again.
-fn bytes_again<R: Files + AllocGlobal>(rt: &R, file: &str) -> io::Result<Vec<u8>> {
-    let mut bytes = Vec::new(rt.alloc());
-    if fs::metadata(rt, file)?.is_file() {
-        File::open(rt, file)?
-            .take(LONGEST_FILE)
-            .read_to_end(&mut bytes)?;
-    }
-    Ok(bytes)
-}
-
 /// Shows a bad line of a scenario, in which the reader found these bytes.
 fn explain_bad<R: AllocGlobal + Eprint>(
     rt: &R,
@@ -103,13 +78,6 @@ fn explain_bad<R: AllocGlobal + Eprint>(
 ) -> io::Result<()> {
     let message = mistake(rt.alloc(), text, kind)?;
     eprintln!(rt; "{file}:{line}: {message}")
-}
-
-/// Shows a line that is not built.
-fn explain_line<R: Files + AllocGlobal + Eprint>(rt: &R, file: &str, line: u32) -> io::Result<()> {
-    let bytes = bytes_again(rt, file)?;
-    let found = shown(rt.alloc(), line_at(bytes.as_slice(), line))?;
-    eprintln!(rt; "{file}:{line}: this is not built yet: '{found}' (built are {BUILT})")
 }
 
 /// Why a file could not be read, as far as it can be seen now.
@@ -219,7 +187,12 @@ pub fn explain<R: Files + AllocGlobal + Eprint>(
         Status::Scenario { line, kind, text } => {
             explain_bad(rt, file, *line, *kind, text.0.as_slice())
         }
-        Status::NotBuilt { line } => explain_line(rt, file, *line),
+        Status::Conf {
+            file,
+            line,
+            kind,
+            text,
+        } => explain_conf(rt, file.as_str(), *line, *kind, text.0.as_slice()),
         Status::Trace { file, cause } => explain_trace(rt, file.as_str(), *cause),
         Status::StoreFault { file } => explain_fault(rt, file.as_str()),
         Status::SinkFault => eprintln!(rt; "standard output did not take the whole history"),
@@ -228,7 +201,7 @@ pub fn explain<R: Files + AllocGlobal + Eprint>(
         ),
         Status::ControlFull => {
             eprintln!(rt;
-                "{file}: the daemons' lines are more than the history may hold ('limit control N' with a greater N was expected, or fewer lines; {DEFAULT_CONTROLS} where it is not given)"
+                "{file}: the daemons do more than the history may hold ('limit control N' with a greater N was expected, or fewer lines; {DEFAULT_CONTROLS} where it is not given)"
             )
         }
     }

@@ -4,6 +4,7 @@
 //! It ends with the number of the run's status, and where that is not 0 it prints one line on standard error.
 #![tactic(auto)]
 
+mod bad_conf;
 mod explain;
 mod folder;
 mod form;

@@ -1,3 +1,4 @@
+use crate::bad_conf::conf_mistake;
 use crate::explain::mistake;
 use mr_base::MOST_ENTRIES;
 use mr_scenario::Kind;
@@ -113,6 +114,26 @@ fn words_are_escaped_and_cut(rt: HostRuntime) -> Result<(), Fail> {
         )?
         .as_str(),
         "bad hex '000000000011111111112222222222333333333344444444445555555555..' (an even number of hex digits, at most 131070)"
+    );
+    Ok(())
+}
+
+#[test]
+fn bad_configurations(rt: HostRuntime) -> Result<(), Fail> {
+    let alloc = rt.alloc();
+    let told = conf_mistake(
+        alloc,
+        b"phyint eth0 enable ttl-threshold 0",
+        smc_conf::Kind::Threshold,
+    )?;
+    assert_eq!(rt;
+        told.as_str(),
+        "bad threshold in 'phyint eth0 enable ttl-threshold 0' (1 to 255)"
+    );
+    let cut = conf_mistake(alloc, b"mgroup\xff", smc_conf::Kind::Word)?;
+    assert!(rt;
+        cut.as_str()
+            .starts_with("bad word or number of words in 'mgroup")
     );
     Ok(())
 }
