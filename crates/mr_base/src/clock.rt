@@ -4,7 +4,8 @@ pub trait Clock {
     ghost use Rattle.std.specs.Option.{option_map};
     ghost use Rattle.mr_base.specs.Outside.{later_numbers};
 
-    // The numbers that the clock will give, one or more, if it tells. The last is given again and again.
+    // The numbers that the clock will give, one or more, if it tells. The last is given again and
+    // again.
     ghost numbers: { Self → Option (List ℕ) };
 
     /// The time in milliseconds.

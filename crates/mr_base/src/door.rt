@@ -3,7 +3,8 @@ use crate::numbers::Failed;
 
 /// A door by which links come in, one after another, and to which each is given back.
 pub trait Door {
-    ghost use Rattle.std.specs.Prelude.{◌≡◌, ◌≤◌, ℕ, Bool, true, false, Option, List, [], ◌∷◌, IfOk, OnErr};
+    ghost use Rattle.std.specs.Prelude.{◌≡◌, ◌≤◌, ℕ, Bool, true, false, Option, List, [], ◌∷◌};
+    ghost use Rattle.std.specs.Prelude.{IfOk, OnErr};
     ghost use Rattle.mr_base.specs.Outside.{Rose, Takes, GivesLink, gave_link};
 
     type Link: Link;
@@ -20,7 +21,8 @@ pub trait Door {
     // How many calls failed; it stops at its highest value, 2^64 - 1.
     ghost faults: { Self → ℕ };
 
-    /// The next link, or `None` where none is to come. After `Failed` nothing is said of those to come.
+    /// The next link, or `None` where none is to come. After `Failed` nothing is said of those to
+    /// come.
     fn next(&mut self) -> Result<Option<Self::Link>, Failed>
         requires { is_out self.old ≡ false }
         ensures first { IfOk result (λ link. GivesLink (to_come self.old) link (to_come self.new)) }

@@ -5,8 +5,8 @@ use arrayvec::ArrayVec;
 use std::alloc::AllocError;
 use std::marker::Model;
 
-/// At most N elements in place: an `ArrayVec` that contracts see as a list, also where it stands in a
-/// field. It takes no memory.
+/// At most N elements in place: an `ArrayVec` that contracts see as a list, also where it stands in
+/// a field. It takes no memory.
 #[derive(Debug, Drop)]
 pub struct Few<X, const N: usize>(pub ArrayVec<X, N>);
 

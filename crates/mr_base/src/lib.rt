@@ -1,5 +1,5 @@
-//! The vocabulary that every crate of Rotchimel shares: addresses, numbers and heads, the records of
-//! routes and vifs, and the traits of the outside world with objects in memory that meet them.
+//! The vocabulary that every crate of Rotchimel shares: addresses, numbers and heads, the records
+//! of routes and vifs, and the traits of the outside world with objects in memory that meet them.
 #![tactic(auto)]
 
 mod clock;

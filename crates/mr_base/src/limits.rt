@@ -55,8 +55,8 @@ pub const MOST_CONTROLS: u32 = 1_048_576;
 /// The control entries that a scenario without `limit control` allows.
 pub const DEFAULT_CONTROLS: u32 = 65_536;
 
-/// The history entries of a run, and the packets that they count: above all that a scenario's limits
-/// allow, so that no number or total runs over.
+/// The history entries of a run, and the packets that they count: above all that a scenario's
+/// limits allow, so that no number or total runs over.
 pub const MOST_HISTORY: u32 = 4_194_304;
 
 /// The bytes of a file that is read; a longer one is a failed read.

@@ -2,7 +2,8 @@ use crate::numbers::Failed;
 
 /// A connection: bytes come in and are sent back.
 pub trait Link {
-    ghost use Rattle.std.specs.Prelude.{◌≡◌, ◌≤◌, ◌⊎◌, ℕ, Option, List, [], Ok, IfOk, OnOk, OnErr, IfSome, length, take};
+    ghost use Rattle.std.specs.Prelude.{◌≡◌, ◌≤◌, ◌⊎◌, ℕ, Option, List, [], Ok, IfOk, OnOk, OnErr};
+    ghost use Rattle.std.specs.Prelude.{IfSome, length, take};
     ghost use Rattle.mr_base.specs.Outside.{Rose, Takes, TakesPrefix, Gives};
 
     // The bytes that are still to come, if the link tells.
@@ -14,8 +15,8 @@ pub trait Link {
     // How many calls failed; it stops at its highest value, 2^64 - 1.
     ghost faults: { Self → ℕ };
 
-    /// Moves the next bytes to the front of `space` and gives their number, which is 0 only where no
-    /// byte is to come or `space` is empty. After `Failed` nothing is said of the bytes to come.
+    /// Moves the next bytes to the front of `space` and gives their number, which is 0 only where
+    /// no byte is to come or `space` is empty. After `Failed` nothing is said of the bytes to come.
     fn get(&mut self, space: &mut [u8]) -> Result<usize, Failed>
         ensures at_most { IfOk result (λ n. n ≤ length space.old) }
         ensures moved { IfOk result (λ n.

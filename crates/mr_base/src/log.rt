@@ -4,7 +4,8 @@ ghost use Rattle.std.specs.Borrow.{ftrue};
 
 use std::marker::{Model, PhantomData};
 
-/// Values in the order in which they were added, which clauses read as `items` and no code can read.
+/// Values in the order in which they were added, which clauses read as `items` and no code can
+/// read.
 #[derive(Drop)]
 pub struct Log<A> {
     of: PhantomData<A>,

@@ -1,4 +1,5 @@
-ghost use Rattle.std.specs.Prelude.{◌≡◌, ◌≤◌, ◌<◌, ◌-◌, Some, OnOk, OnErr, [], length, take, drop, min};
+ghost use Rattle.std.specs.Prelude.{◌≡◌, ◌≤◌, ◌<◌, ◌-◌, Some, OnOk, OnErr, [], length, take, drop};
+ghost use Rattle.std.specs.Prelude.{min};
 ghost use Rattle.mr_base.specs.Outside.{Rose, Takes};
 
 use crate::link::Link;
@@ -18,8 +19,8 @@ pub struct MemLink {
 }
 
 impl MemLink {
-    /// A link by which `input` is to come, at most `piece` bytes at a call. `fails` has the numbers, from
-    /// 1, of the calls that are to fail; for now it has to be empty.
+    /// A link by which `input` is to come, at most `piece` bytes at a call. `fails` has the
+    /// numbers, from 1, of the calls that are to fail; for now it has to be empty.
     pub fn with(alloc: Global, input: Vec<u8>, piece: u32, fails: Vec<u64>) -> Self
         requires moves { 1 ≤ piece }
         requires no_fails { fails.items ≡ [] }

@@ -13,8 +13,8 @@ pub struct MemSink {
 }
 
 impl MemSink {
-    /// A sink that took nothing. `fails` has the numbers, from 1, of the calls that are to fail; for now
-    /// it has to be empty.
+    /// A sink that took nothing. `fails` has the numbers, from 1, of the calls that are to fail;
+    /// for now it has to be empty.
     pub fn with(alloc: Global, fails: Vec<u64>) -> Self
         requires { fails.items ≡ [] }
         ensures taken { ⟦<MemSink as Sink>⟧.taken result ≡ Some [] }

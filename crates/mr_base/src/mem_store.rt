@@ -1,5 +1,8 @@
-ghost use Rattle.std.specs.Prelude.{◌≡◌, ◌≢◌, ◌≤◌, ◌+◌, ◌-◌, ◌^◌, ◌||◌, min, true, false, Some, None, IsNone, is_none, IfSome, IfOk, IsErrOf, MatchOption, OnOk, OnErr, AllPairs, [], ◌∷◌, ◌++◌, length};
-ghost use Rattle.mr_base.specs.Outside.{Rose, no_call, is_failed, is_failed_read, HasFile, AllStay, OthersStay};
+ghost use Rattle.std.specs.Prelude.{◌≡◌, ◌≢◌, ◌≤◌, ◌+◌, ◌-◌, ◌^◌, ◌||◌, min, true, false, Some};
+ghost use Rattle.std.specs.Prelude.{None, IsNone, is_none, IfSome, IfOk, IsErrOf, MatchOption};
+ghost use Rattle.std.specs.Prelude.{OnOk, OnErr, AllPairs, [], ◌∷◌, ◌++◌, length};
+ghost use Rattle.mr_base.specs.Outside.{Rose, no_call, is_failed, is_failed_read, HasFile, AllStay};
+ghost use Rattle.mr_base.specs.Outside.{OthersStay};
 ghost use Rattle.mr_base.specs.MemStores.{bytes_of, is_to_fail, IsPlaceOf};
 ghost use Rattle.mr_base.specs.declared.read_error.ReadError.TheVariants as read_error;
 
@@ -26,8 +29,8 @@ pub struct MemStore {
 }
 
 impl MemStore {
-    /// A store of these files, whose names differ. `fails` has the numbers, from 1, of the calls that
-    /// are to fail.
+    /// A store of these files, whose names differ. `fails` has the numbers, from 1, of the calls
+    /// that are to fail.
     pub fn with(alloc: Global, files: Vec<(FileName, Vec<u8>)>, fails: Vec<u64>) -> Self
         requires differ { AllPairs (λ a b. a.0 ≢ b.0) files.items }
         ensures told { ⟦<MemStore as Store>⟧.told result ≡ Some (bytes_of files.items) }
@@ -111,7 +114,8 @@ impl MemStore {
         self.fails.iter().any(|n| *n == number)
     }
 
-    /// What the next call gives if it is a read: `None` where it is to fail or no file has the name.
+    /// What the next call gives if it is a read: `None` where it is to fail or no file has the
+    /// name.
     fn given(&self, name: &str) -> Option<&[u8]>
         ensures none { is_none result ≡ is_to_fail self.now.fails.items self.now.made
             || is_none (bytes_of self.now.files.items name.now) }
@@ -163,8 +167,8 @@ impl Store for MemStore {
 
     ghost calls = { λ s. s.calls.items };
 
-    /// The bytes of a file. It fails exactly where no file has the name or the call is one that is to
-    /// fail.
+    /// The bytes of a file. It fails exactly where no file has the name or the call is one that is
+    /// to fail.
     fn read(&mut self, alloc: Global, name: &str) -> Result<Vec<u8>, ReadError>
         requires { length name.now ≤ 255 }
         ensures bytes { IfOk result (λ v.
@@ -206,8 +210,8 @@ impl Store for MemStore {
         }
     }
 
-    /// Sets the bytes of a file, or changes no file where memory ran out or the call is one that is to
-    /// fail.
+    /// Sets the bytes of a file, or changes no file where memory ran out or the call is one that is
+    /// to fail.
     fn write(&mut self, name: &str, bytes: &[u8]) -> Result<(), Failed>
         requires { length name.now ≤ 255 }
         ensures bytes { OnOk result

@@ -4,8 +4,10 @@ use std::alloc::Global;
 
 /// A place of files, each known by a name of 1 to 255 bytes.
 pub trait Store {
-    ghost use Rattle.std.specs.Prelude.{◌≡◌, ◌≤◌, ◌^◌, ℕ, Option, None, IfOk, OnOk, OnErr, IfSome, IsErrOf, List, [], ◌∷◌, ◌++◌, length, true, false};
-    ghost use Rattle.mr_base.specs.Outside.{Files, LastCall, Rose, AllStay, OthersStay, HasFile, is_failed, is_failed_read};
+    ghost use Rattle.std.specs.Prelude.{◌≡◌, ◌≤◌, ◌^◌, ℕ, Option, None, IfOk, OnOk, OnErr, IfSome};
+    ghost use Rattle.std.specs.Prelude.{IsErrOf, List, [], ◌∷◌, ◌++◌, length, true, false};
+    ghost use Rattle.mr_base.specs.Outside.{Files, LastCall, Rose, AllStay, OthersStay, HasFile};
+    ghost use Rattle.mr_base.specs.Outside.{is_failed, is_failed_read};
     ghost use Rattle.mr_base.specs.declared.store_call.StoreCall.{StoreCall};
     ghost use Rattle.mr_base.specs.declared.read_error.ReadError.TheVariants as read_error;
 

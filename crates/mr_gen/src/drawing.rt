@@ -1,6 +1,7 @@
 //! The packets of the lanes, drawn by their generators.
 
-ghost use Rattle.std.specs.Prelude.{◌≡◌, ◌+◌, ◌*◌, ◌<◌, ◌≤◌, ◌^◌, ◌++◌, ◌∷◌, [], map, flat_map, None, IfOk, OnOk};
+ghost use Rattle.std.specs.Prelude.{◌≡◌, ◌+◌, ◌*◌, ◌<◌, ◌≤◌, ◌^◌, ◌++◌, ◌∷◌, [], map, flat_map};
+ghost use Rattle.std.specs.Prelude.{None, IfOk, OnOk};
 ghost use Rattle.mr_base.specs.Heads.{cause_of};
 ghost use Rattle.mr_gen.specs.Entries.{packet_of};
 ghost use Rattle.mr_load.specs.Dues.{with_due};

@@ -1,6 +1,7 @@
 //! The scenario that a seed makes.
 
-ghost use Rattle.std.specs.Prelude.{◌≡◌, ◌*◌, ◌<◌, ◌≤◌, ◌^◌, ◌∷◌, [], replicate, true, None, map, IfOk};
+ghost use Rattle.std.specs.Prelude.{◌≡◌, ◌*◌, ◌<◌, ◌≤◌, ◌^◌, ◌∷◌, [], replicate, true, None, map};
+ghost use Rattle.std.specs.Prelude.{IfOk};
 ghost use Rattle.mr_base.specs.Outside.{Files};
 ghost use Rattle.mr_base.specs.declared.limits.TheConstants.{MOST_ITEMS, MOST_LANES};
 ghost use Rattle.mr_gen.specs.Entries.{devices};

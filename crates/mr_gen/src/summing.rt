@@ -2,7 +2,8 @@
 
 ghost use Rattle.std.specs.Prelude.{◌≡◌, ◌+◌, ◌*◌, ◌<◌, ◌≤◌, ◌^◌, count_ones, length, sum_by, take};
 ghost use Rattle.mr_base.specs.declared.route.Route.{Route};
-ghost use Rattle.mr_gen.specs.Sums.{busier, busiest_before, copies, fast, fast_in, nobody, slow, slow_in};
+ghost use Rattle.mr_gen.specs.Sums.{busier, busiest_before, copies, fast, fast_in, nobody, slow};
+ghost use Rattle.mr_gen.specs.Sums.{slow_in};
 ghost use Rattle.mr_gen.specs.Adding.{copies_in, outs_in};
 ghost use Rattle.mr_history.specs.Seen.{entry_seen};
 

@@ -7,8 +7,8 @@ use crate::fields::{four_at, head_length, two_at};
 use crate::sum::ones_sum;
 use mr_base::{Addr, HeadError};
 
-/// The first cause, in the order of `HeadError`, for which these bytes do not begin with an accepted
-/// head (RFC 791 section 3.1, the checksum by RFC 1071). It takes no memory.
+/// The first cause, in the order of `HeadError`, for which these bytes do not begin with an
+/// accepted head (RFC 791 section 3.1, the checksum by RFC 1071). It takes no memory.
 #[tactic(auto, unfolding(mr_base::specs::Heads::cause_in))]
 pub fn cause_of(bytes: &[u8]) -> Option<HeadError>
     ensures cause { result ≡ heads.cause_of bytes.now }

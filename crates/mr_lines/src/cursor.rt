@@ -1,6 +1,7 @@
 //! Words cut from the front of a line.
 
-ghost use Rattle.std.specs.Prelude.{◌≡◌, ◌≢◌, ◌<◌, ◌≤◌, ℕ, [], ◌∷◌, length, slice_index, MatchOption};
+ghost use Rattle.std.specs.Prelude.{◌≡◌, ◌≢◌, ◌<◌, ◌≤◌, ℕ, [], ◌∷◌, length, slice_index};
+ghost use Rattle.std.specs.Prelude.{MatchOption};
 ghost use Rattle.mr_lines.specs.Bytes.{behind, ends};
 ghost use Rattle.mr_words.specs.Parts.{parts_of};
 
@@ -26,7 +27,8 @@ pub fn first_word(bytes: &[u8]) -> (&[u8], &[u8])
 
 /// The next word of what is left, and what is left behind it.
 pub fn next_word(rest: &[u8]) -> Option<(&[u8], &[u8])>
-    ensures { MatchOption result (behind rest.now ≡ []) (λ x. behind rest.now ≡ x.0.now ∷ behind x.1.now) }
+    ensures { MatchOption result (behind rest.now ≡ []) (λ x.
+        behind rest.now ≡ x.0.now ∷ behind x.1.now) }
 {
     match rest {
         [] => None,

@@ -3,7 +3,8 @@
 ghost use Rattle.std.specs.Prelude.{◌≡◌, ◌∷◌, false, codes, bytes_eq, MatchOption};
 ghost use Rattle.mr_lines.specs.Bytes.{behind, Gives};
 ghost use Rattle.mr_lines.specs.Fields.{one};
-ghost use Rattle.mr_lines.specs.Reading.{addr, lane, daemon, vif_or_none, route_totals, vif_totals, key};
+ghost use Rattle.mr_lines.specs.Reading.{addr, lane, daemon, vif_or_none, route_totals, vif_totals};
+ghost use Rattle.mr_lines.specs.Reading.{key};
 ghost use Rattle.mr_lines.specs.Words.{name_of};
 ghost use Rattle.mr_words.specs.Parts.{before, parts_of};
 
@@ -98,7 +99,8 @@ pub fn key_at(rest: &[u8]) -> Option<(MfcKey, &[u8])>
 #[inline(always)]
 #[tactic(auto, using(crate::proofs::ByteLaws::dash_ends, crate::proofs::ByteLaws::dash_goes_on, crate::proofs::ByteLaws::no_dash))]
 pub fn past_dash(bytes: &[u8]) -> Option<&[u8]>
-    ensures { MatchOption result (bytes_eq (before 32 bytes.now) (codes "-") ≡ false) (λ x. parts_of 32 bytes.now ≡ codes "-" ∷ behind x.now) }
+    ensures { MatchOption result (bytes_eq (before 32 bytes.now) (codes "-") ≡ false) (λ x.
+        parts_of 32 bytes.now ≡ codes "-" ∷ behind x.now) }
 {
     match bytes {
         [b'-', left @ ..] => { if ends(left) { Some(left) } else { None } }

@@ -21,7 +21,8 @@ fn asked_for(i: u32, word: &[u8]) -> u8
 /// The threshold that the next word asks for vif i, or 0, and what is left behind its item.
 fn item_for(rest: &[u8], i: u32) -> (u8, &[u8])
     ensures ttl { result.0 ≡ first_for i (behind rest.now) }
-    ensures left { behind result.1.now ≡ (if first_for i (behind rest.now) == 0 then behind rest.now else drop 1 (behind rest.now)) }
+    ensures left { behind result.1.now ≡ (if first_for i (behind rest.now) == 0
+        then behind rest.now else drop 1 (behind rest.now)) }
 {
     match next_word(rest) {
         None => (0, rest),

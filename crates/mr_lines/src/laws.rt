@@ -1,6 +1,7 @@
 //! Laws of lines.
 
-ghost use Rattle.mr_lines.specs.Laws.{LineTakes, LineAgain, LineClean, LineSplits, LineIsOne, SpacedAgain};
+ghost use Rattle.mr_lines.specs.Laws.{LineTakes, LineAgain, LineClean, LineSplits, LineIsOne};
+ghost use Rattle.mr_lines.specs.Laws.{SpacedAgain};
 
 /// Words that say a line are its words, and the line fits.
 pub fn line_takes()

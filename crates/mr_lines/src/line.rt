@@ -3,7 +3,8 @@ use crate::tail::{RouteLine, VifLine};
 use mr_base::{DaemonNo, LaneNo};
 use mr_model::{FastRecord, FateLine, MessageId, Outcome, ReleasedId, Reply, Request};
 
-/// One line of a history's text, by itself. The number of an entry is that which its line begins with.
+/// One line of a history's text, by itself. The number of an entry is that which its line begins
+/// with.
 #[derive(Debug, Drop)]
 pub enum Line {
     /// `history 1`

@@ -20,7 +20,10 @@ fn grown(value: u64, digit: u8) -> Option<u64>
 
 /// The number that the digits here spell, if it is one of 64 bits, and the bytes behind them.
 fn digits(bytes: &[u8]) -> Option<(u64, &[u8])>
-    ensures { MatchOption result (18446744073709551615 < fold digit_on 0 (digits_of bytes.now)) (λ x. (fold digit_on 0 (digits_of bytes.now) ≡ x.0) × (x.0 ≤ 18446744073709551615) × (x.1.now ≡ past_digits bytes.now)) }
+    ensures { MatchOption result
+        (18446744073709551615 < fold digit_on 0 (digits_of bytes.now)) (λ x.
+        (fold digit_on 0 (digits_of bytes.now) ≡ x.0)
+        × (x.0 ≤ 18446744073709551615) × (x.1.now ≡ past_digits bytes.now)) }
 {
     let mut value = 0u64;
     let mut left = bytes;
@@ -39,7 +42,9 @@ fn digits(bytes: &[u8]) -> Option<(u64, &[u8])>
 
 /// The number that begins here, if it is one of 64 bits, and the bytes behind its digits.
 fn leading_u64(bytes: &[u8]) -> Option<(u64, &[u8])>
-    ensures { MatchOption result (number_of 18446744073709551615 (digits_of bytes.now) ≡ None) (λ x. (number_of 18446744073709551615 (digits_of bytes.now) ≡ Some x.0) × (x.1.now ≡ past_digits bytes.now)) }
+    ensures { MatchOption result (number_of 18446744073709551615 (digits_of bytes.now) ≡ None) (λ x.
+        (number_of 18446744073709551615 (digits_of bytes.now) ≡ Some x.0)
+        × (x.1.now ≡ past_digits bytes.now)) }
 {
     if !begins_number(bytes) {
         return None;
@@ -64,7 +69,8 @@ pub fn first_u64(bytes: &[u8]) -> Option<(u64, &[u8])>
     }
 }
 
-/// The number that the next word of what is left spells, if it is one of 64 bits, and what is left behind it.
+/// The number that the next word of what is left spells, if it is one of 64 bits, and what is left
+/// behind it.
 pub fn u64_at(rest: &[u8]) -> Option<(u64, &[u8])>
     ensures { Gives (λ r. r.now) result (u64 (behind rest.now)) }
 {

@@ -35,7 +35,8 @@ fn is_comma(bytes: &[u8]) -> bool
 /// The mask of the first word, and what is left behind it.
 #[inline(always)]
 fn vifs(bytes: &[u8]) -> Option<(u32, &[u8])>
-    ensures { Gives (λ r. r.now) result (leaving (parts_behind 32 bytes.now) (with_vifs 0 0 (parts_of 44 (before 32 bytes.now)))) }
+    ensures { Gives (λ r. r.now) result
+        (leaving (parts_behind 32 bytes.now) (with_vifs 0 0 (parts_of 44 (before 32 bytes.now)))) }
 {
     let mut mask = 0u32;
     let mut least = 0u32;

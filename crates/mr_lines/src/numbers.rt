@@ -1,6 +1,7 @@
 //! Numbers read in one pass.
 
-ghost use Rattle.std.specs.Prelude.{◌≡◌, ◌<◌, ◌≤◌, ◌∷◌, ◌==◌, ◌&&◌, nat_le, if◌then◌else◌, Some, None, IfSome, MatchOption, SomeIff, length, slice_index, fold};
+ghost use Rattle.std.specs.Prelude.{◌≡◌, ◌<◌, ◌≤◌, ◌∷◌, ◌==◌, ◌&&◌, nat_le, if◌then◌else◌, Some};
+ghost use Rattle.std.specs.Prelude.{None, IfSome, MatchOption, SomeIff, length, slice_index, fold};
 ghost use Rattle.mr_lines.specs.Bytes.{behind, ends, digits_of, past_digits, begins_number, Gives};
 ghost use Rattle.mr_lines.specs.Fields.{one};
 ghost use Rattle.mr_lines.specs.Reading.{u8, u16, u32};
@@ -34,11 +35,14 @@ fn grown(value: u64, digit: u8, most: u32) -> Option<u64>
     }
 }
 
-/// The number that the digits here spell behind those of a first number, if it is at most `most`, and the bytes behind them.
+/// The number that the digits here spell behind those of a first number, if it is at most `most`,
+/// and the bytes behind them.
 #[inline(always)]
 fn digits(first: u64, bytes: &[u8], most: u32) -> Option<(u32, &[u8])>
     requires { first ≤ most }
-    ensures { MatchOption result (most < fold digit_on first (digits_of bytes.now)) (λ x. (fold digit_on first (digits_of bytes.now) ≡ x.0) × (x.0 ≤ most) × (x.1.now ≡ past_digits bytes.now)) }
+    ensures { MatchOption result (most < fold digit_on first (digits_of bytes.now)) (λ x.
+        (fold digit_on first (digits_of bytes.now) ≡ x.0)
+        × (x.0 ≤ most) × (x.1.now ≡ past_digits bytes.now)) }
 {
     let mut value = first;
     let mut left = bytes;
@@ -58,7 +62,8 @@ fn digits(first: u64, bytes: &[u8], most: u32) -> Option<(u32, &[u8])>
 /// The number that begins here, if it is at most `most`, and the bytes behind its digits.
 #[inline(always)]
 pub fn leading_number(bytes: &[u8], most: u32) -> Option<(u32, &[u8])>
-    ensures number { MatchOption result (number_of most (digits_of bytes.now) ≡ None) (λ x. (number_of most (digits_of bytes.now) ≡ Some x.0) × (x.1.now ≡ past_digits bytes.now)) }
+    ensures number { MatchOption result (number_of most (digits_of bytes.now) ≡ None) (λ x.
+        (number_of most (digits_of bytes.now) ≡ Some x.0) × (x.1.now ≡ past_digits bytes.now)) }
     ensures within { IfSome result (λ x. x.0 ≤ most) }
 {
     if !begins_number(bytes) {
@@ -91,7 +96,8 @@ pub fn first_number(bytes: &[u8], most: u32) -> Option<(u32, &[u8])>
     }
 }
 
-/// The number that the next word of what is left spells, if it is at most `most`, and what is left behind it.
+/// The number that the next word of what is left spells, if it is at most `most`, and what is left
+/// behind it.
 #[inline(always)]
 fn number_at(rest: &[u8], most: u32) -> Option<(u32, &[u8])>
     ensures number { Gives (λ r. r.now) result (one (number_of most) (behind rest.now)) }

@@ -3,7 +3,9 @@
 ghost use Rattle.std.specs.Prelude.{◌≡◌};
 ghost use Rattle.mr_lines.specs.Bytes.{behind, Gives};
 ghost use Rattle.mr_lines.specs.Fields.{by_word, mapped, one, both};
-ghost use Rattle.mr_lines.specs.Reading.{u8, u32, lane, vif_or_none, mask, to_forward, to_register, to_wrong, outcome_at, happened, fate_at, to_message, message_of, message_at};
+ghost use Rattle.mr_lines.specs.Reading.{u8, u32, lane, vif_or_none, mask, to_forward, to_register};
+ghost use Rattle.mr_lines.specs.Reading.{to_wrong, outcome_at, happened, fate_at, to_message};
+ghost use Rattle.mr_lines.specs.Reading.{message_of, message_at};
 ghost use Rattle.mr_lines.specs.Words.{told_of, report_of, cause_of};
 ghost use Rattle.mr_model.specs.declared.outcome.Outcome.TheVariants as outcome;
 
@@ -15,7 +17,8 @@ use crate::words::{cause_of, kind_of, report_of, told_of};
 use mr_model::{Fate, Kind, MessageId, Outcome};
 
 fn forward_at(rest: &[u8]) -> Option<(Outcome, &[u8])>
-    ensures { Gives (λ r. r.now) result (mapped to_forward (both u32 (both vif_or_none mask)) (behind rest.now)) }
+    ensures { Gives (λ r. r.now) result
+        (mapped to_forward (both u32 (both vif_or_none mask)) (behind rest.now)) }
 {
     let (entry, rest) = u32_at(rest)?;
     let (input, rest) = vif_or_none_at(rest)?;
@@ -24,7 +27,8 @@ fn forward_at(rest: &[u8]) -> Option<(Outcome, &[u8])>
 }
 
 fn register_at(rest: &[u8]) -> Option<(Outcome, &[u8])>
-    ensures { Gives (λ r. r.now) result (mapped to_register (both u32 (both vif_or_none (both mask (one told_of)))) (behind rest.now)) }
+    ensures { Gives (λ r. r.now) result (mapped to_register
+        (both u32 (both vif_or_none (both mask (one told_of)))) (behind rest.now)) }
 {
     let (entry, rest) = u32_at(rest)?;
     let (input, rest) = vif_or_none_at(rest)?;
@@ -43,7 +47,8 @@ fn register_at(rest: &[u8]) -> Option<(Outcome, &[u8])>
 }
 
 fn wrong_at(rest: &[u8]) -> Option<(Outcome, &[u8])>
-    ensures { Gives (λ r. r.now) result (mapped to_wrong (both u32 (both vif_or_none (one report_of))) (behind rest.now)) }
+    ensures { Gives (λ r. r.now) result
+        (mapped to_wrong (both u32 (both vif_or_none (one report_of))) (behind rest.now)) }
 {
     let (entry, rest) = u32_at(rest)?;
     let (vif, rest) = vif_or_none_at(rest)?;
@@ -117,7 +122,8 @@ pub fn fate_at(rest: &[u8]) -> Option<(Fate, &[u8])>
 
 /// What names a report of a kind.
 fn id_at(kind: Kind, rest: &[u8]) -> Option<(Option<MessageId>, &[u8])>
-    ensures { Gives (λ r. r.now) result (mapped (to_message kind) (both u8 (both lane u32)) (behind rest.now)) }
+    ensures { Gives (λ r. r.now) result
+        (mapped (to_message kind) (both u8 (both lane u32)) (behind rest.now)) }
 {
     let (vif, rest) = u8_at(rest)?;
     let (lane, rest) = lane_at(rest)?;

@@ -3,7 +3,10 @@
 ghost use Rattle.std.specs.Prelude.{◌≡◌, ◌∷◌, codes, option_and_then};
 ghost use Rattle.mr_lines.specs.Bytes.{behind, Gives};
 ghost use Rattle.mr_lines.specs.Fields.{by_word, both, mapped, keyword, whole};
-ghost use Rattle.mr_lines.specs.Reading.{u32, lane, daemon, vif_or_none, mask, skip, route, vif, fate_line, is_outcome, happened, to_released, record_of, record_fields, as_record, dash, to_call, to_slow, entry_at, numbered, line_at, line_of, asked, replied};
+ghost use Rattle.mr_lines.specs.Reading.{u32, lane, daemon, vif_or_none, mask, skip, route, vif};
+ghost use Rattle.mr_lines.specs.Reading.{fate_line, is_outcome, happened, to_released, record_of};
+ghost use Rattle.mr_lines.specs.Reading.{record_fields, as_record, dash, to_call, to_slow};
+ghost use Rattle.mr_lines.specs.Reading.{entry_at, numbered, line_at, line_of, asked, replied};
 ghost use Rattle.mr_lines.specs.declared.line.Line.TheVariants as line;
 ghost use Rattle.mr_words.specs.Parts.{parts_of};
 
@@ -81,7 +84,8 @@ fn is_outcome(word: &[u8]) -> bool
 }
 
 fn released_at(lane: u32, index: u32, rest: &[u8]) -> Option<(Line, &[u8])>
-    ensures { Gives (λ r. r.now) result (mapped (to_released (lane, index)) happened (behind rest.now)) }
+    ensures { Gives (λ r. r.now) result
+        (mapped (to_released (lane, index)) happened (behind rest.now)) }
 {
     let (outcome, rest) = outcome_at(rest)?;
     Some((
@@ -96,7 +100,8 @@ fn released_at(lane: u32, index: u32, rest: &[u8]) -> Option<(Line, &[u8])>
 
 #[inline(always)]
 fn record_at(index: u32, look: u32, rest: &[u8]) -> Option<(FastRecord, &[u8])>
-    ensures { Gives (λ r. r.now) result (mapped (record_of (index, look)) (both u32 (both vif_or_none mask)) (behind rest.now)) }
+    ensures { Gives (λ r. r.now) result
+        (mapped (record_of (index, look)) (both u32 (both vif_or_none mask)) (behind rest.now)) }
 {
     let (entry, rest) = u32_at(rest)?;
     let (input, rest) = vif_or_none_at(rest)?;
@@ -133,7 +138,8 @@ fn whole_record(rest: &[u8]) -> Option<FastRecord>
     if rest.len() == 0 { Some(record) } else { None }
 }
 
-/// The record whose line bytes without a line feed spell, if they spell one. It is quicker than `read_line`.
+/// The record whose line bytes without a line feed spell, if they spell one. It is quicker than
+/// `read_line`.
 #[inline(always)]
 pub fn read_record(line: &[u8]) -> Option<FastRecord>
     ensures { result ≡ option_and_then as_record (line_of (parts_of 32 line.now)) }
@@ -161,7 +167,8 @@ fn dash_at(rest: &[u8]) -> Option<(Line, &[u8])>
 }
 
 fn call_at(number: u64, rest: &[u8]) -> Option<(Line, &[u8])>
-    ensures { Gives (λ r. r.now) result (mapped (to_call number) (both daemon (both asked replied)) (behind rest.now)) }
+    ensures { Gives (λ r. r.now) result
+        (mapped (to_call number) (both daemon (both asked replied)) (behind rest.now)) }
 {
     let (daemon, rest) = daemon_at(rest)?;
     let (request, rest) = asked_at(rest)?;
@@ -178,7 +185,8 @@ fn call_at(number: u64, rest: &[u8]) -> Option<(Line, &[u8])>
 }
 
 fn slow_at(number: u64, rest: &[u8]) -> Option<(Line, &[u8])>
-    ensures { Gives (λ r. r.now) result (mapped (to_slow number) (both lane (both u32 (both u32 happened))) (behind rest.now)) }
+    ensures { Gives (λ r. r.now) result
+        (mapped (to_slow number) (both lane (both u32 (both u32 happened))) (behind rest.now)) }
 {
     let (lane, rest) = lane_at(rest)?;
     let (index, rest) = u32_at(rest)?;

@@ -3,7 +3,8 @@
 ghost use Rattle.std.specs.Prelude.{◌≡◌, ◌<◌, ◌≤◌, None, Some, MatchOption, length};
 ghost use Rattle.mr_lines.specs.Bytes.{behind, Gives};
 ghost use Rattle.mr_lines.specs.Fields.{by_word, mapped, one, both};
-ghost use Rattle.mr_lines.specs.Reading.{addr, vif_ctl, route_ctl, to_count, request_at, asked, good, reply_at, replied};
+ghost use Rattle.mr_lines.specs.Reading.{addr, vif_ctl, route_ctl, to_count, request_at, asked};
+ghost use Rattle.mr_lines.specs.Reading.{good, reply_at, replied};
 ghost use Rattle.mr_lines.specs.Words.{at_number, local_of, ttls_from, errno_of};
 ghost use Rattle.mr_model.specs.declared.reply.Reply.TheVariants as reply;
 

@@ -286,13 +286,19 @@ fn outcomes_and_entries(rt: HostRuntime) {
     assert!(rt; is_none(b"4 recv 1 none 1"));
     assert!(rt; is_none(b"4 recv 1 nocache 256 1 1"));
     assert!(rt;
-        matches!(read_line(b"1 settle 2 18446744073709551615"), Some(Line::Settle { count, .. }) if count == 18_446_744_073_709_551_615)
+        matches!(
+            read_line(b"1 settle 2 18446744073709551615"),
+            Some(Line::Settle { count, .. }) if count == 18_446_744_073_709_551_615
+        )
     );
     assert!(rt;
         matches!(read_line(b"1 settle 2 0"), Some(Line::Settle { count, .. }) if count == 0)
     );
     assert!(rt;
-        matches!(read_line(b"1 tick 2 4294967295"), Some(Line::Tick { ms, .. }) if ms == 4_294_967_295)
+        matches!(
+            read_line(b"1 tick 2 4294967295"),
+            Some(Line::Tick { ms, .. }) if ms == 4_294_967_295
+        )
     );
     assert!(rt; is_none(b"1 tick 2 4294967296"));
     assert!(rt; matches!(read_line(b"7 phase"), Some(Line::Phase { number }) if number == 7));
@@ -311,7 +317,8 @@ fn records_and_released(rt: HostRuntime) {
     );
     assert!(rt;
         is_record(
-            b"- 1 2 3 0 0,1,2,3,4,5,6,7,8,9,10,11,12,13,14,15,16,17,18,19,20,21,22,23,24,25,26,27,28,29,30,31",
+            b"- 1 2 3 0 \
+            0,1,2,3,4,5,6,7,8,9,10,11,12,13,14,15,16,17,18,19,20,21,22,23,24,25,26,27,28,29,30,31",
             record(1, 2, 3, Some(0), 4_294_967_295)
         )
     );
@@ -356,15 +363,27 @@ fn tail_lines(rt: HostRuntime) {
         },
     };
     assert!(rt;
-        matches!(read_line(b"route 4294967295 10.0.0.1 224.0.0.1 255 1 2 3"), Some(Line::Route(r)) if r == route)
+        matches!(
+            read_line(b"route 4294967295 10.0.0.1 224.0.0.1 255 1 2 3"),
+            Some(Line::Route(r)) if r == route
+        )
     );
     assert!(rt; is_none(b"route 1 10.0.0.1 224.0.0.1 256 1 2 3"));
     assert!(rt; is_none(b"route 1 10.0.0.1 224.0.0.01 255 1 2 3"));
     assert!(rt;
-        matches!(read_line(b"vif 255 pimreg 1 2 3 4"), Some(Line::Vif(v)) if v.vif == 255 && v.name.as_str() == "pimreg" && v.totals.bytes_out == 4)
+        matches!(
+            read_line(b"vif 255 pimreg 1 2 3 4"),
+            Some(Line::Vif(v))
+                if v.vif == 255
+                    && v.name.as_str() == "pimreg"
+                    && v.totals.bytes_out == 4
+        )
     );
     assert!(rt;
-        matches!(read_line(b"vif 0 a23456789012345 1 2 3 4"), Some(Line::Vif(v)) if v.name.as_str() == "a23456789012345")
+        matches!(
+            read_line(b"vif 0 a23456789012345 1 2 3 4"),
+            Some(Line::Vif(v)) if v.name.as_str() == "a23456789012345"
+        )
     );
     assert!(rt; is_none(b"vif 0 a234567890123456 1 2 3 4"));
     assert!(rt; is_none(b"vif 256 eth0 1 2 3 4"));
@@ -381,10 +400,16 @@ fn tail_lines(rt: HostRuntime) {
         matches!(read_line(b"fate 1 2 waiting"), Some(Line::Fate(f)) if f.fate == Fate::Waiting)
     );
     assert!(rt;
-        matches!(read_line(b"fate 1 2 released 1"), Some(Line::Fate(f)) if f.fate == Fate::Released(1))
+        matches!(
+            read_line(b"fate 1 2 released 1"),
+            Some(Line::Fate(f)) if f.fate == Fate::Released(1)
+        )
     );
     assert!(rt;
-        matches!(read_line(b"fate 1 2 flushed 1"), Some(Line::Fate(f)) if f.fate == Fate::Flushed(1))
+        matches!(
+            read_line(b"fate 1 2 flushed 1"),
+            Some(Line::Fate(f)) if f.fate == Fate::Flushed(1)
+        )
     );
     assert!(rt; is_none(b"fate 1 2 waiting 1"));
     assert!(rt; is_none(b"fate 1 2 flushed 4294967296"));

@@ -2,7 +2,8 @@
 
 ghost use Rattle.std.specs.Prelude.{◌≡◌};
 ghost use Rattle.mr_lines.specs.Fit.{is_vif_name};
-ghost use Rattle.mr_lines.specs.Words.{addr_of, name_of, errno_of, report_of, told_of, cause_of, kind_of};
+ghost use Rattle.mr_lines.specs.Words.{addr_of, name_of, errno_of, report_of, told_of, cause_of};
+ghost use Rattle.mr_lines.specs.Words.{kind_of};
 
 use mr_base::{Addr, Errno, FileName};
 use mr_model::{Cause, Kind, Report};

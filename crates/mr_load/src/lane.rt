@@ -51,7 +51,8 @@ fn bytes_of<'a>(all: &'a [u8], held: &Held) -> &'a [u8]
 }
 
 impl LanePackets {
-    ghost use Rattle.std.specs.Prelude.{◌≡◌, ◌<◌, ◌≤◌, [], length, slice_get, None, IfOk, OnOk, OnErr, IfSome};
+    ghost use Rattle.std.specs.Prelude.{◌≡◌, ◌<◌, ◌≤◌, [], length, slice_get, None, IfOk, OnOk};
+    ghost use Rattle.std.specs.Prelude.{OnErr, IfSome};
     ghost use Rattle.std.specs.List.{AllByRecursion};
     ghost use Rattle.mr_base.specs.Heads.{cause_of};
     ghost use Rattle.mr_ip.specs.Bodies.{body_of};

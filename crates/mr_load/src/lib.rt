@@ -1,7 +1,7 @@
-//! A scenario is loaded: read from a store with the files that it names, its items told apart into the
-//! packets and the skips of each lane, and the routing machines of its daemons made. And what a
-//! history of a scenario has to have: each lane's packets and each daemon's calls, once and in their
-//! order.
+//! A scenario is loaded: read from a store with the files that it names, its items told apart into
+//! the packets and the skips of each lane, and the routing machines of its daemons made. And what a
+//! history of a scenario has to have: each lane's packets and each daemon's calls, once and in
+//! their order.
 #![tactic(auto)]
 
 mod gathering;

@@ -1,6 +1,8 @@
-//! A scenario is loaded: read with the files that it names, its items told apart into packets and skips, and its machines made.
+//! A scenario is loaded: read with the files that it names, its items told apart into packets and
+//! skips, and its machines made.
 
-ghost use Rattle.std.specs.Prelude.{◌≡◌, ◌≤◌, ◌++◌, ◌∷◌, [], List, Option, length, false, Err, None, IfOk, IfSome};
+ghost use Rattle.std.specs.Prelude.{◌≡◌, ◌≤◌, ◌++◌, ◌∷◌, [], List, Option, length, false, Err};
+ghost use Rattle.std.specs.Prelude.{None, IfOk, IfSome};
 ghost use Rattle.mr_base.specs.Outside.{Files, HasFile, AllStay, Rose};
 ghost use Rattle.mr_base.specs.declared.limits.TheConstants.{MOST_ITEMS};
 ghost use Rattle.mr_load.specs.Faults.{failed_read, is_fault, read_of};
@@ -146,20 +148,20 @@ fn load_bytes<S: Store>(
     }
 }
 
-/// Reads the scenario of this name from the store, whose name has 1 to 255 bytes, and the files that
-/// it names, each once: the configurations of its daemons, and the traces of its lines. Each lane gets
-/// its packets and its skips, and each daemon with configurations its routing machine. The sessions of
-/// `serve` are not built yet.
+/// Reads the scenario of this name from the store, whose name has 1 to 255 bytes, and the files
+/// that it names, each once: the configurations of its daemons, and the traces of its lines. Each
+/// lane gets its packets and its skips, and each daemon with configurations its routing machine.
+/// The sessions of `serve` are not built yet.
 ///
 /// # Errors
 ///
-/// In their order: `StoreFault` exactly where the scenario cannot be read; `Scenario` with the first
-/// bad line; and then for each file that is named, in the order of first naming (the daemons' files
-/// first, as the head's lines stand before all phases), `StoreFault` where it cannot be read; `Conf`
-/// with its first bad line where a daemon names it and it is no accepted configuration; and `Trace`
-/// where lines name it and it is no accepted trace, or where with it the items of all lanes or the
-/// bytes of all traces are too many. `Memory` may come wherever memory is taken, and not in place of a
-/// fault.
+/// In their order: `StoreFault` exactly where the scenario cannot be read; `Scenario` with the
+/// first bad line; and then for each file that is named, in the order of first naming (the daemons'
+/// files first, as the head's lines stand before all phases), `StoreFault` where it cannot be read;
+/// `Conf` with its first bad line where a daemon names it and it is no accepted configuration; and
+/// `Trace` where lines name it and it is no accepted trace, or where with it the items of all lanes
+/// or the bytes of all traces are too many. `Memory` may come wherever memory is taken, and not in
+/// place of a fault.
 pub fn load<S: Store>(
     alloc: Global,
     file: &str,

@@ -135,7 +135,8 @@ fn name_item(named: &mut Named, item: &Item) -> Result<(), AllocError>
 
 /// The lines of a phase.
 fn name_items(named: &mut Named, items: &[Item]) -> Result<(), AllocError>
-    ensures files { OnOk result (named.new.files.entries ≡ named_on named.old.files.entries items.now) }
+    ensures files { OnOk result
+        (named.new.files.entries ≡ named_on named.old.files.entries items.now) }
     ensures packets { OnOk result (named.new.packets
         ≡ named.old.packets + sum_by (λ i. packets_in i.given) items.now) }
 {

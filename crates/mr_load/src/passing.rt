@@ -1,6 +1,7 @@
 //! One pass over the lines of all lanes: each of their items is a packet of its lane, or a skip.
 
-ghost use Rattle.std.specs.Prelude.{◌≡◌, ℕ, ◌+◌, ◌<◌, ◌≤◌, Some, None, [], ◌∷◌, ◌++◌, length, OnOk, IfOk};
+ghost use Rattle.std.specs.Prelude.{◌≡◌, ℕ, ◌+◌, ◌<◌, ◌≤◌, Some, None, [], ◌∷◌, ◌++◌, length, OnOk};
+ghost use Rattle.std.specs.Prelude.{IfOk};
 ghost use Rattle.std.specs.List.{AllByRecursion};
 ghost use Rattle.mr_base.specs.declared.limits.TheConstants.{MOST_ITEMS};
 ghost use Rattle.mr_base.specs.Heads.{cause_of};
@@ -222,7 +223,8 @@ fn pass_phases(lanes: &mut Vec<Passed>, phases: &[Phase], traces: &Traces) -> Re
     requires fresh { EachFrom IsFresh 1 lanes.old.items }
     requires lanes { AllByRecursion (λ p.
         AllByRecursion (IsOfLanes (length lanes.old.items)) p.items) phases.now }
-    requires items { all_items (contents_kept traces.now.entries) (items_in phases.now) ≤ MOST_ITEMS }
+    requires items { all_items (contents_kept traces.now.entries) (items_in phases.now)
+        ≤ MOST_ITEMS }
     requires phases { length phases.now ≤ 1000 }
     ensures passed { OnOk result (EachFrom
         (HasPassed (contents_kept traces.now.entries) phases.now) 1 lanes.new.items) }
@@ -251,8 +253,8 @@ fn fresh_lanes(alloc: Global, lanes: u32) -> Result<Vec<Passed>, AllocError>
     Ok(fresh)
 }
 
-/// What the lines of these phases give to each of so many lanes, where these are the traces that they
-/// name.
+/// What the lines of these phases give to each of so many lanes, where these are the traces that
+/// they name.
 pub(crate) fn pass_lanes(
     alloc: Global,
     lanes: u32,
@@ -260,7 +262,8 @@ pub(crate) fn pass_lanes(
     traces: &Traces,
 ) -> Result<Vec<Passed>, AllocError>
     requires lanes { AllByRecursion (λ p. AllByRecursion (IsOfLanes lanes) p.items) phases.now }
-    requires items { all_items (contents_kept traces.now.entries) (items_in phases.now) ≤ MOST_ITEMS }
+    requires items { all_items (contents_kept traces.now.entries) (items_in phases.now)
+        ≤ MOST_ITEMS }
     requires phases { length phases.now ≤ 1000 }
     ensures passed { IfOk result (λ v. EachFrom
         (HasPassed (contents_kept traces.now.entries) phases.now) 1 v.items) }

@@ -5,8 +5,8 @@ use mr_base::{FileName, List};
 use mr_scenario::Kind;
 use smc_conf::Kind as ConfKind;
 
-/// Why a file is refused as a trace: the first of these that holds, in the order `CutHeader`, `Magic`,
-/// `LinkType`, `CutRecord`, `TooMany`.
+/// Why a file is refused as a trace: the first of these that holds, in the order `CutHeader`,
+/// `Magic`, `LinkType`, `CutRecord`, `TooMany`.
 #[derive(Clone, Copy, Debug, PartialEq, Eq)]
 pub enum TraceCause {
     /// The first four bytes are no magic number of a classic pcap file.
@@ -31,21 +31,21 @@ pub enum Status {
     /// The words are not `replay SCENARIO`, with a file word of 1 to 255 bytes that does not begin
     /// with `out-`.
     Usage,
-    /// The first bad line of the scenario, what is wrong with it, and what was found there: the word
-    /// at fault or the line, its first `MOST_TEXT` bytes (mr_scenario). Nothing was written.
+    /// The first bad line of the scenario, what is wrong with it, and what was found there: the
+    /// word at fault or the line, its first `MOST_TEXT` bytes (mr_scenario). Nothing was written.
     Scenario {
         line: u32,
         kind: Kind,
         text: List<u8>,
     },
-    /// The file, which a line names, is the first that is no accepted trace, or is too much with those
-    /// before it. Nothing was written.
+    /// The file, which a line names, is the first that is no accepted trace, or is too much with
+    /// those before it. Nothing was written.
     Trace {
         file: FileName,
         cause: TraceCause,
     },
-    /// The file, which a daemon names, is the first that is no accepted configuration: its first bad
-    /// line, what is wrong with it, and its first 4,096 bytes. Nothing was written.
+    /// The file, which a daemon names, is the first that is no accepted configuration: its first
+    /// bad line, what is wrong with it, and its first 4,096 bytes. Nothing was written.
     Conf {
         file: FileName,
         line: u32,
@@ -60,7 +60,8 @@ pub enum Status {
     SinkFault,
     /// Memory ran out. Nothing was written.
     Memory,
-    /// The daemons' calls, ticks and receives are more than `limit control` allows. Nothing was written.
+    /// The daemons' calls, ticks and receives are more than `limit control` allows. Nothing was
+    /// written.
     ControlFull,
 }
 

@@ -15,8 +15,8 @@ pub(crate) struct Totals {
     pub bytes: u64,
 }
 
-/// The totals with one file more, of so many records and bytes, which so many lines name: none where
-/// that is too much.
+/// The totals with one file more, of so many records and bytes, which so many lines name: none
+/// where that is too much.
 pub(crate) fn with_file(totals: Totals, lines: u64, records: u64, bytes: u64) -> Option<Totals>
     ensures { result ≡ (if are_few (with_trace totals lines records bytes)
         then Some (with_trace totals lines records bytes) else None) }

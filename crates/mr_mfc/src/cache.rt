@@ -1,8 +1,10 @@
 //! The entries of a table.
 
-ghost use Rattle.std.specs.Prelude.{◌≡◌, ◌<◌, ◌≤◌, [], ◌∷◌, length, nat_lt, nat_le, find, IsTrue, IfOk, IfSome};
+ghost use Rattle.std.specs.Prelude.{◌≡◌, ◌<◌, ◌≤◌, [], ◌∷◌, length, nat_lt, nat_le, find, IsTrue};
+ghost use Rattle.std.specs.Prelude.{IfOk, IfSome};
 ghost use Rattle.std.specs.List.{list_any};
-ghost use Rattle.mr_model.specs.RouteList.{is_named, has_number, changed_to, change_first, remove_first, routes_left};
+ghost use Rattle.mr_model.specs.RouteList.{is_named, has_number, changed_to, change_first};
+ghost use Rattle.mr_model.specs.RouteList.{remove_first, routes_left};
 ghost use Rattle.mr_model.specs.Found.{proxy_in, star_in, is_proxied};
 ghost use Rattle.mr_mfc.specs.Caches.{is_above, IsFalling};
 ghost use Rattle.mr_mfc.specs.declared.cache.TheConstants.{MOST_SLOTS};

@@ -1,6 +1,8 @@
 //! Laws of entries whose numbers fall, as those of every cache do.
 
-ghost use Rattle.mr_mfc.specs.Laws.{NumberFinds, NumberChanges, NumberRemoves, NumberThere, InsertFalls, ChangeFalls, RemoveFalls, FlushFalls, AboveEach, EachAbove, FirstBelow, NextBelow};
+ghost use Rattle.mr_mfc.specs.Laws.{NumberFinds, NumberChanges, NumberRemoves, NumberThere};
+ghost use Rattle.mr_mfc.specs.Laws.{InsertFalls, ChangeFalls, RemoveFalls, FlushFalls, AboveEach};
+ghost use Rattle.mr_mfc.specs.Laws.{EachAbove, FirstBelow, NextBelow};
 
 /// The first entry that passes a test can be found, changed and removed by its number.
 pub fn number_names()

@@ -1,4 +1,5 @@
-ghost use Rattle.std.specs.Prelude.{◌≡◌, ◌≤◌, ◌<◌, ℕ, List, [], ◌∷◌, ◌++◌, IfOk, OnErr, IsErr, IsErrOf};
+ghost use Rattle.std.specs.Prelude.{◌≡◌, ◌≤◌, ◌<◌, ℕ, List, [], ◌∷◌, ◌++◌, IfOk, OnErr, IsErr};
+ghost use Rattle.std.specs.Prelude.{IsErrOf};
 
 use crate::message::Told;
 use crate::reply::Reply;
@@ -28,16 +29,18 @@ pub trait Caller {
     fn left(&self) -> u32
         ensures { result ≡ entries_left self.now };
 
-    /// Makes a control call. `ControlFull` comes where no control entry is left, and `Memory` where a
-    /// change of the tables finds no memory; neither is an entry.
+    /// Makes a control call. `ControlFull` comes where no control entry is left, and `Memory` where
+    /// a change of the tables finds no memory; neither is an entry.
     fn call(&mut self, request: &Request) -> Result<Reply, CallError>
-        ensures ok { IfOk result (λ reply. did self.new ≡ did self.old ++ Asked request.now reply ∷ []) }
+        ensures ok { IfOk result (λ reply.
+            did self.new ≡ did self.old ++ Asked request.now reply ∷ []) }
         ensures err { OnErr result (did self.new ≡ did self.old) }
         ensures falls { entries_left self.new ≤ entries_left self.old }
         ensures full { IsErrOf result CallError.ControlFull → entries_left self.new ≡ 0 }
         ensures surely { entries_left self.old ≡ 0 → IsErr result };
 
-    /// Takes the oldest unread report; none where there is none, or where the caller is not the owner.
+    /// Takes the oldest unread report; none where there is none, or where the caller is not the
+    /// owner.
     fn recv(&mut self) -> Result<Option<Told>, ControlFull>
         ensures ok { IfOk result (λ told. did self.new ≡ did self.old ++ Received told ∷ []) }
         ensures err { OnErr result (did self.new ≡ did self.old) }

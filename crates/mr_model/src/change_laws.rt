@@ -14,8 +14,8 @@ pub fn changes_push()
         changes limits (h ++ e ∷ []) ≡ changes limits h ++ change_by limits (state limits h) e }
 {}
 
-/// The changes of a history, one after another, make its tables of empty ones; those up to n make the tables of its
-/// first n entries.
+/// The changes of a history, one after another, make its tables of empty ones; those up to n make
+/// the tables of its first n entries.
 pub fn changes_make_tables()
     ensures all { (limits : Limits) (h : List Entry) →
         tables_by (changes limits h) ≡ (state limits h).tables }
@@ -25,8 +25,8 @@ pub fn changes_make_tables()
         tables_by (up_to n (changes limits h)) ≡ (state limits (take n h)).tables }
 {}
 
-/// The numbers of changes are above 0 and rise; those of the entries of the tables fall from the newest on, and are at
-/// most that of the last history entry.
+/// The numbers of changes are above 0 and rise; those of the entries of the tables fall from the
+/// newest on, and are at most that of the last history entry.
 pub fn numbers_rise()
     ensures rise { (limits : Limits) (h : List Entry) → NumbersRise 0 (changes limits h) }
     ensures fall { (limits : Limits) (h : List Entry) →

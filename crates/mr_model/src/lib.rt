@@ -1,5 +1,5 @@
-//! The one-thread multicast machine of Linux 6.1 (net/ipv4/ipmr.c), said over lists: the types of its
-//! calls, packets and history, and in `specs/` the definitions of what a legal history is.
+//! The one-thread multicast machine of Linux 6.1 (net/ipv4/ipmr.c), said over lists: the types of
+//! its calls, packets and history, and in `specs/` the definitions of what a legal history is.
 #![tactic(auto)]
 
 mod caller;

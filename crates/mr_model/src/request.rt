@@ -1,6 +1,7 @@
 use mr_base::Addr;
 
-/// What `MRT_ADD_VIF` is given (struct vifctl of mroute.h). Threshold, rate and remote have no effect.
+/// What `MRT_ADD_VIF` is given (struct vifctl of mroute.h). Threshold, rate and remote have no
+/// effect.
 #[derive(Clone, Copy, Debug, PartialEq, Eq)]
 pub struct VifCtl {
     pub vif: u16,

@@ -1,6 +1,7 @@
 //! Laws of texts and of the histories that they tell.
 
-ghost use Rattle.mr_one_text.specs.Laws.{FlowsAreSent, LegalHasRoom, OneHistory, OneWritten, RoomFits, SaysNoFlow, TextTells, TurnsTell};
+ghost use Rattle.mr_one_text.specs.Laws.{FlowsAreSent, LegalHasRoom, OneHistory, OneWritten};
+ghost use Rattle.mr_one_text.specs.Laws.{RoomFits, SaysNoFlow, TextTells, TurnsTell};
 
 /// The text of any skips, entries and tail is that of the entries with every flow set to zero.
 pub fn says_no_flow()

@@ -1,5 +1,6 @@
 //! Requests read from the records of options.
-ghost use Rattle.std.specs.Prelude.{◌≡◌, length, drop, Some, take, if◌then◌else◌, ◌==◌, ◌≤◌, ◌↔◌, ◌≢◌, IsNone, IsSomeAnd};
+ghost use Rattle.std.specs.Prelude.{◌≡◌, length, drop, Some, take, if◌then◌else◌, ◌==◌, ◌≤◌, ◌↔◌};
+ghost use Rattle.std.specs.Prelude.{◌≢◌, IsNone, IsSomeAnd};
 ghost use Rattle.mr_opt.specs.Options.{mrt_done, length_of, request_in, request_of};
 ghost use Rattle.mr_opt.specs.Records.{vifctl_of, mfcctl_of, mfc_key_of, int_of};
 

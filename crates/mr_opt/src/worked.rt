@@ -7,8 +7,10 @@ ghost use Rattle.mr_opt.specs.WorkedRecords as worked;
 /// Worked rows of the definitions of records: its contract says by which bytes requests are made,
 /// and what bytes ask for. It does nothing.
 pub fn worked_records()
-    ensures add_vif { set_by (request.AddVif worked.on_device) ≡ Some (202, worked.on_device_bytes) }
-    ensures add_vif_by_address { set_by (request.AddVif worked.by_address) ≡ Some (202, worked.by_address_bytes) }
+    ensures add_vif { set_by (request.AddVif worked.on_device)
+        ≡ Some (202, worked.on_device_bytes) }
+    ensures add_vif_by_address { set_by (request.AddVif worked.by_address)
+        ≡ Some (202, worked.by_address_bytes) }
     ensures del_vif { set_by (request.DelVif 258) ≡ Some (203, worked.vif_alone) }
     ensures add_mfc { set_by (request.AddMfc worked.entry) ≡ Some (204, worked.entry_bytes) }
     ensures del_mfc { set_by (request.DelMfc worked.name) ≡ Some (205, worked.name_alone) }
@@ -21,7 +23,8 @@ pub fn worked_records()
     ensures done { set_by request.Finish ≡ Some (201, []) }
     ensures version { set_by request.GetVersion ≡ None }
     ensures vif_asked { request_of 202 worked.on_device_and_more ≡ request.AddVif worked.on_device }
-    ensures address_asked { request_of 202 worked.by_address_bytes ≡ request.AddVif worked.by_address }
+    ensures address_asked { request_of 202 worked.by_address_bytes
+        ≡ request.AddVif worked.by_address }
     ensures vif_named { request_of 203 worked.by_address_bytes ≡ request.DelVif 258 }
     ensures entry_asked { request_of 204 worked.entry_bytes ≡ request.AddMfc worked.entry }
     ensures entry_named { request_of 205 worked.entry_bytes ≡ request.DelMfc worked.name }

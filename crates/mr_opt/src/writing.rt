@@ -1,8 +1,10 @@
 //! The records by which requests are made.
-ghost use Rattle.std.specs.Prelude.{◌≡◌, ◌++◌, ◌≤◌, length, drop, if◌then◌else◌, ◌==◌, IfNone, IfOk, IfSome, IsSomeAnd};
+ghost use Rattle.std.specs.Prelude.{◌≡◌, ◌++◌, ◌≤◌, length, drop, if◌then◌else◌, ◌==◌, IfNone};
+ghost use Rattle.std.specs.Prelude.{IfOk, IfSome, IsSomeAnd};
 ghost use Rattle.byteorder.specs.Endian.{big_bytes, little_bytes};
 ghost use Rattle.mr_opt.specs.Options.{set_by, request_of};
-ghost use Rattle.mr_opt.specs.Records.{vifctl_bytes, mfcctl_bytes, int_bytes, vifctl_of, mfcctl_of, mfc_key_of, int_of};
+ghost use Rattle.mr_opt.specs.Records.{vifctl_bytes, mfcctl_bytes, int_bytes, vifctl_of, mfcctl_of};
+ghost use Rattle.mr_opt.specs.Records.{mfc_key_of, int_of};
 
 use crate::options::*;
 use byteorder::{BigEndian, ByteOrder, LittleEndian};
@@ -38,7 +40,8 @@ fn vifctl_bytes(vif: u16, flags: u8, local: u32) -> [u8; VIFCTL_LENGTH]
 /// An mfcctl, with zeros for what is ignored.
 fn mfcctl_bytes(src: Addr, dst: Addr, parent: u16, ttls: &[u8; 32]) -> [u8; MFCCTL_LENGTH]
     ensures bytes { result ≡ mfcctl_bytes src dst parent ttls.now }
-    ensures again { mfcctl_of result ≡ record { src = src; dst = dst; parent = parent; ttls = ttls.now } }
+    ensures again { mfcctl_of result
+        ≡ record { src = src; dst = dst; parent = parent; ttls = ttls.now } }
     ensures key { mfc_key_of result ≡ record { src = src; dst = dst; parent = parent } }
 {
     let mut bytes = [0; MFCCTL_LENGTH];
@@ -75,7 +78,8 @@ fn set(alloc: Global, opt: u16, bytes: &[u8]) -> Result<Option<(u16, Vec<u8>)>, 
 /// # Errors
 /// `Memory` where there is none for the record.
 pub fn set_bytes(alloc: Global, request: &Request) -> Result<Option<(u16, Vec<u8>)>, Memory>
-    ensures made { IfOk result (λ set. IfSome set (λ s. set_by request.now ≡ Some (s.0, s.1.items))) }
+    ensures made { IfOk result (λ set.
+        IfSome set (λ s. set_by request.now ≡ Some (s.0, s.1.items))) }
     ensures none { IfOk result (λ set. IfNone set (set_by request.now ≡ None)) }
     ensures again { IfOk result (λ set. IfSome set (λ s. request_of s.0 s.1.items ≡ request.now)) }
 {

@@ -2,7 +2,8 @@
 ghost use Rattle.std.specs.Prelude.{◌≡◌, ℕ, zero, Ok, All, List, flat_map};
 ghost use Rattle.mr_pcap.specs.declared.order.Order.{Order};
 ghost use Rattle.mr_pcap.specs.Places.{AreBytes, Fits};
-ghost use Rattle.mr_pcap.specs.Traces.{Capture, Captured, capture_of, file_bytes, record_in, records_behind};
+ghost use Rattle.mr_pcap.specs.Traces.{Capture, Captured, capture_of, file_bytes, record_in};
+ghost use Rattle.mr_pcap.specs.Traces.{records_behind};
 
 /// What is written, read, is the trace: its contract says so of each trace whose numbers fit in 32
 /// bits. It does nothing.

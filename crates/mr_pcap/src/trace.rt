@@ -1,5 +1,6 @@
 //! A trace with its file.
-ghost use Rattle.std.specs.Prelude.{◌≡◌, ◌<◌, ◌≤◌, ◌^◌, IsSome, length, drop, slice_get, option_map};
+ghost use Rattle.std.specs.Prelude.{◌≡◌, ◌<◌, ◌≤◌, ◌^◌, IsSome, length, drop, slice_get};
+ghost use Rattle.std.specs.Prelude.{option_map};
 ghost use Rattle.mr_pcap.specs.Places.{captured, captured_at};
 ghost use Rattle.mr_pcap.specs.Traces.{whole_length};
 

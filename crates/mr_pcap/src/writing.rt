@@ -1,5 +1,6 @@
 //! A trace written, little-endian.
-ghost use Rattle.std.specs.Prelude.{◌≡◌, ◌+◌, ◌<◌, ◌^◌, ◌++◌, All, OnOk, OnErr, IfOk, Ok, flat_map, length, map};
+ghost use Rattle.std.specs.Prelude.{◌≡◌, ◌+◌, ◌<◌, ◌^◌, ◌++◌, All, OnOk, OnErr, IfOk, Ok, flat_map};
+ghost use Rattle.std.specs.Prelude.{length, map};
 ghost use Rattle.byteorder.specs.Endian.{little_bytes};
 ghost use Rattle.mr_pcap.specs.Places.{AreWhole, Fits, captured, captured_at, followed_by};
 ghost use Rattle.mr_pcap.specs.Traces.{capture_of, file_bytes, header_bytes, record_bytes};

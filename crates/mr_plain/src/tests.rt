@@ -53,8 +53,8 @@ fn machine(limits: &Limits, alloc: Global) -> Result<Plain, Fail>
 enum Step {
     /// A call of a daemon with this reply, which releases these packets.
     Call(u32, Request, Reply, &'static [ReleasedId]),
-    /// A packet of lane 1 from 10.0.0.9 to 239.1.1.1 with TTL 9 and 28 bytes: its device, its index,
-    /// its look and what became of it.
+    /// A packet of lane 1 from 10.0.0.9 to 239.1.1.1 with TTL 9 and 28 bytes: its device, its
+    /// index, its look and what became of it.
     Slow(u32, u32, u32, Outcome),
     /// `tick MS` of daemon 1.
     Tick(u32),

@@ -2,8 +2,11 @@
 
 ghost use Rattle.std.specs.Prelude.{◌≡◌, ◌++◌, ◌∷◌, [], codes, decimal, OnOk};
 ghost use Rattle.mr_base.specs.Errnos.{number_of};
-ghost use Rattle.mr_lines.specs.Forms.{address, mask, vif_or_none, local_word, route_words, key_words};
-ghost use Rattle.mr_lines.specs.Lines.{request_words, reply_words, route_total_words, vif_total_words, report_word, cause_word, told_word, outcome_words, kind_word, message_words, fate_words};
+ghost use Rattle.mr_lines.specs.Forms.{address, mask, vif_or_none, local_word, route_words};
+ghost use Rattle.mr_lines.specs.Forms.{key_words};
+ghost use Rattle.mr_lines.specs.Lines.{request_words, reply_words, route_total_words};
+ghost use Rattle.mr_lines.specs.Lines.{vif_total_words, report_word, cause_word, told_word};
+ghost use Rattle.mr_lines.specs.Lines.{outcome_words, kind_word, message_words, fate_words};
 ghost use Rattle.mr_print.specs.Written.{led};
 
 use crate::words::{
@@ -26,7 +29,8 @@ fn write_plain(out: &mut Vec<u8>, bytes: &[u8]) -> Result<(), AllocError>
 
 /// A keyword and a number.
 fn write_with(out: &mut Vec<u8>, word: &[u8], number: u32) -> Result<(), AllocError>
-    ensures { OnOk result (out.new.items ≡ out.old.items ++ (word.now ++ led (decimal number ∷ []))) }
+    ensures { OnOk result
+        (out.new.items ≡ out.old.items ++ (word.now ++ led (decimal number ∷ []))) }
 {
     write_plain(out, word)?;
     write_spaced(out, u64::from(number))?;
@@ -35,7 +39,8 @@ fn write_with(out: &mut Vec<u8>, word: &[u8], number: u32) -> Result<(), AllocEr
 
 /// The fields of a vif that is added.
 fn write_add_vif(out: &mut Vec<u8>, ctl: &VifCtl) -> Result<(), AllocError>
-    ensures { OnOk result (out.new.items ≡ out.old.items ++ led (codes "addvif" ∷ decimal ctl.now.vif ∷ decimal ctl.now.flags ∷ local_word ctl.now ∷ [])) }
+    ensures { OnOk result (out.new.items ≡ out.old.items ++ led (codes "addvif"
+        ∷ decimal ctl.now.vif ∷ decimal ctl.now.flags ∷ local_word ctl.now ∷ [])) }
 {
     write_plain(out, b" addvif")?;
     write_spaced(out, u64::from(ctl.vif))?;
@@ -67,7 +72,8 @@ fn write_key_fields(out: &mut Vec<u8>, key: &MfcKey) -> Result<(), AllocError>
 
 /// A keyword and the fields of an entry.
 fn write_route_call(out: &mut Vec<u8>, word: &[u8], ctl: &MfcCtl) -> Result<(), AllocError>
-    ensures { OnOk result (out.new.items ≡ out.old.items ++ (word.now ++ led (route_words ctl.now))) }
+    ensures { OnOk result
+        (out.new.items ≡ out.old.items ++ (word.now ++ led (route_words ctl.now))) }
 {
     write_plain(out, word)?;
     write_route_fields(out, ctl)?;
@@ -85,7 +91,8 @@ fn write_key_call(out: &mut Vec<u8>, word: &[u8], key: &MfcKey) -> Result<(), Al
 
 /// The words of a request for the counts of a pair.
 fn write_sg_count(out: &mut Vec<u8>, src: Addr, dst: Addr) -> Result<(), AllocError>
-    ensures { OnOk result (out.new.items ≡ out.old.items ++ led (codes "sgcnt" ∷ address src ∷ address dst ∷ [])) }
+    ensures { OnOk result
+        (out.new.items ≡ out.old.items ++ led (codes "sgcnt" ∷ address src ∷ address dst ∷ [])) }
 {
     write_plain(out, b" sgcnt")?;
     write_address(out, src)?;
@@ -142,7 +149,8 @@ pub fn write_vif_totals(out: &mut Vec<u8>, totals: &VifTotals) -> Result<(), All
 
 /// The words of a reply with an entry's counts.
 fn write_sg_reply(out: &mut Vec<u8>, totals: &RouteTotals) -> Result<(), AllocError>
-    ensures { OnOk result (out.new.items ≡ out.old.items ++ led (codes "sg" ∷ route_total_words totals.now)) }
+    ensures { OnOk result
+        (out.new.items ≡ out.old.items ++ led (codes "sg" ∷ route_total_words totals.now)) }
 {
     write_plain(out, b" sg")?;
     write_route_totals(out, totals)?;
@@ -151,7 +159,8 @@ fn write_sg_reply(out: &mut Vec<u8>, totals: &RouteTotals) -> Result<(), AllocEr
 
 /// The words of a reply with a vif's counts.
 fn write_vif_reply(out: &mut Vec<u8>, totals: &VifTotals) -> Result<(), AllocError>
-    ensures { OnOk result (out.new.items ≡ out.old.items ++ led (codes "vif" ∷ vif_total_words totals.now)) }
+    ensures { OnOk result
+        (out.new.items ≡ out.old.items ++ led (codes "vif" ∷ vif_total_words totals.now)) }
 {
     write_plain(out, b" vif")?;
     write_vif_totals(out, totals)?;
@@ -179,7 +188,8 @@ fn write_forward(
     input: Option<u8>,
     outs: Mask,
 ) -> Result<(), AllocError>
-    ensures { OnOk result (out.new.items ≡ out.old.items ++ (word.now ++ led (decimal entry ∷ vif_or_none input ∷ mask outs ∷ []))) }
+    ensures { OnOk result (out.new.items
+        ≡ out.old.items ++ (word.now ++ led (decimal entry ∷ vif_or_none input ∷ mask outs ∷ []))) }
 {
     write_plain(out, word)?;
     write_spaced(out, u64::from(entry))?;
@@ -238,7 +248,8 @@ fn write_register(
     outs: Mask,
     told: bool,
 ) -> Result<(), AllocError>
-    ensures { OnOk result (out.new.items ≡ out.old.items ++ led (codes "reg" ∷ decimal entry ∷ vif_or_none input ∷ mask outs ∷ told_word told ∷ [])) }
+    ensures { OnOk result (out.new.items ≡ out.old.items ++ led (codes "reg"
+        ∷ decimal entry ∷ vif_or_none input ∷ mask outs ∷ told_word told ∷ [])) }
 {
     write_forward(out, b" reg", entry, input, outs)?;
     write_plain(out, told_text(told))?;
@@ -252,7 +263,8 @@ fn write_wrong(
     vif: Option<u8>,
     report: Report,
 ) -> Result<(), AllocError>
-    ensures { OnOk result (out.new.items ≡ out.old.items ++ led (codes "wrong" ∷ decimal entry ∷ vif_or_none vif ∷ report_word report ∷ [])) }
+    ensures { OnOk result (out.new.items ≡ out.old.items
+        ++ led (codes "wrong" ∷ decimal entry ∷ vif_or_none vif ∷ report_word report ∷ [])) }
 {
     write_plain(out, b" wrong")?;
     write_spaced(out, u64::from(entry))?;
@@ -263,7 +275,8 @@ fn write_wrong(
 
 /// The words of a packet that was dropped.
 fn write_dropped(out: &mut Vec<u8>, cause: Cause) -> Result<(), AllocError>
-    ensures { OnOk result (out.new.items ≡ out.old.items ++ led (codes "drop" ∷ cause_word cause ∷ [])) }
+    ensures { OnOk result
+        (out.new.items ≡ out.old.items ++ led (codes "drop" ∷ cause_word cause ∷ [])) }
 {
     write_plain(out, b" drop")?;
     write_plain(out, cause_text(cause))?;
@@ -292,7 +305,8 @@ pub fn write_outcome(out: &mut Vec<u8>, outcome: &Outcome) -> Result<(), AllocEr
 
 /// The words of a report to a daemon.
 fn write_told(out: &mut Vec<u8>, message: &MessageId) -> Result<(), AllocError>
-    ensures { OnOk result (out.new.items ≡ out.old.items ++ led (kind_word message.now.kind ∷ decimal message.now.vif ∷ decimal message.now.lane.0 ∷ decimal message.now.index ∷ [])) }
+    ensures { OnOk result (out.new.items ≡ out.old.items ++ led (kind_word message.now.kind
+        ∷ decimal message.now.vif ∷ decimal message.now.lane.0 ∷ decimal message.now.index ∷ [])) }
 {
     write_plain(out, kind_text(message.kind))?;
     write_spaced(out, u64::from(message.vif))?;

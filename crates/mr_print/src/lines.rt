@@ -34,10 +34,11 @@ pub fn write_end(out: &mut Vec<u8>) -> Result<(), AllocError>
     Ok(())
 }
 
-/// Puts the line of an item that is no packet. Without memory for all of it the answer is `AllocError`,
-/// and a part of it may stand.
+/// Puts the line of an item that is no packet. Without memory for all of it the answer is
+/// `AllocError`, and a part of it may stand.
 pub fn write_skip(out: &mut Vec<u8>, skip: &Skip) -> Result<(), AllocError>
-    ensures { OnOk result (out.new.items ≡ out.old.items ++ line_bytes (line_words (line.Skip skip.now))) }
+    ensures { OnOk result
+        (out.new.items ≡ out.old.items ++ line_bytes (line_words (line.Skip skip.now))) }
 {
     out.extend_from_slice(b"skip")?;
     write_spaced(out, u64::from(skip.lane.0))?;
@@ -54,7 +55,8 @@ fn write_call_words(
     request: &Request,
     reply: &Reply,
 ) -> Result<(), AllocError>
-    ensures { OnOk result (out.new.items ≡ out.old.items ++ led (codes "call" ∷ decimal daemon.0 ∷ (request_words request.now ++ codes "=" ∷ reply_words reply.now))) }
+    ensures { OnOk result (out.new.items ≡ out.old.items ++ led (codes "call"
+        ∷ decimal daemon.0 ∷ (request_words request.now ++ codes "=" ∷ reply_words reply.now))) }
 {
     out.extend_from_slice(b" call")?;
     write_spaced(out, u64::from(daemon.0))?;
@@ -73,7 +75,8 @@ pub fn write_call(
     request: &Request,
     reply: &Reply,
 ) -> Result<(), AllocError>
-    ensures { OnOk result (out.new.items ≡ out.old.items ++ line_bytes (line_words (line.Call number daemon request.now reply.now))) }
+    ensures { OnOk result (out.new.items ≡ out.old.items
+        ++ line_bytes (line_words (line.Call number daemon request.now reply.now))) }
 {
     write_number(out, number)?;
     write_call_words(out, daemon, request, reply)?;
@@ -81,10 +84,11 @@ pub fn write_call(
     Ok(())
 }
 
-/// Puts the line of a packet that a call released. Without memory for all of it the answer is `AllocError`,
-/// and a part of it may stand.
+/// Puts the line of a packet that a call released. Without memory for all of it the answer is
+/// `AllocError`, and a part of it may stand.
 pub fn write_released(out: &mut Vec<u8>, released: &ReleasedId) -> Result<(), AllocError>
-    ensures { OnOk result (out.new.items ≡ out.old.items ++ line_bytes (line_words (line.Released released.now))) }
+    ensures { OnOk result
+        (out.new.items ≡ out.old.items ++ line_bytes (line_words (line.Released released.now))) }
 {
     out.extend_from_slice(b"-")?;
     write_spaced(out, u64::from(released.lane.0))?;
@@ -102,7 +106,8 @@ fn write_slow_words(
     look: u32,
     outcome: &Outcome,
 ) -> Result<(), AllocError>
-    ensures { OnOk result (out.new.items ≡ out.old.items ++ led (codes "slow" ∷ decimal lane.0 ∷ decimal index ∷ decimal look ∷ outcome_words outcome.now)) }
+    ensures { OnOk result (out.new.items ≡ out.old.items ++ led (codes "slow"
+        ∷ decimal lane.0 ∷ decimal index ∷ decimal look ∷ outcome_words outcome.now)) }
 {
     out.extend_from_slice(b" slow")?;
     write_spaced(out, u64::from(lane.0))?;
@@ -112,8 +117,8 @@ fn write_slow_words(
     Ok(())
 }
 
-/// Puts the line of a packet that was decided under the lock. Without memory for all of it the answer is `AllocError`,
-/// and a part of it may stand.
+/// Puts the line of a packet that was decided under the lock. Without memory for all of it the
+/// answer is `AllocError`, and a part of it may stand.
 pub fn write_slow(
     out: &mut Vec<u8>,
     number: u64,
@@ -122,7 +127,8 @@ pub fn write_slow(
     look: u32,
     outcome: &Outcome,
 ) -> Result<(), AllocError>
-    ensures { OnOk result (out.new.items ≡ out.old.items ++ line_bytes (line_words (line.Slow number lane index look outcome.now))) }
+    ensures { OnOk result (out.new.items
+        ≡ out.old.items ++ line_bytes (line_words (line.Slow number lane index look outcome.now))) }
 {
     write_number(out, number)?;
     write_slow_words(out, lane, index, look, outcome)?;
@@ -130,15 +136,16 @@ pub fn write_slow(
     Ok(())
 }
 
-/// Puts the first line of a settle of `count` records. Without memory for all of it the answer is `AllocError`,
-/// and a part of it may stand.
+/// Puts the first line of a settle of `count` records. Without memory for all of it the answer is
+/// `AllocError`, and a part of it may stand.
 pub fn write_settle(
     out: &mut Vec<u8>,
     number: u64,
     lane: LaneNo,
     count: u64,
 ) -> Result<(), AllocError>
-    ensures { OnOk result (out.new.items ≡ out.old.items ++ line_bytes (line_words (line.Settle number lane count))) }
+    ensures { OnOk result
+        (out.new.items ≡ out.old.items ++ line_bytes (line_words (line.Settle number lane count))) }
 {
     write_number(out, number)?;
     out.extend_from_slice(b" settle")?;
@@ -156,7 +163,8 @@ pub fn write_tick(
     daemon: DaemonNo,
     ms: u32,
 ) -> Result<(), AllocError>
-    ensures { OnOk result (out.new.items ≡ out.old.items ++ line_bytes (line_words (line.Tick number daemon ms))) }
+    ensures { OnOk result
+        (out.new.items ≡ out.old.items ++ line_bytes (line_words (line.Tick number daemon ms))) }
 {
     write_number(out, number)?;
     out.extend_from_slice(b" tick")?;
@@ -166,15 +174,16 @@ pub fn write_tick(
     Ok(())
 }
 
-/// Puts the line of what a daemon received. Without memory for all of it the answer is `AllocError`,
-/// and a part of it may stand.
+/// Puts the line of what a daemon received. Without memory for all of it the answer is
+/// `AllocError`, and a part of it may stand.
 pub fn write_recv(
     out: &mut Vec<u8>,
     number: u64,
     daemon: DaemonNo,
     message: &Option<MessageId>,
 ) -> Result<(), AllocError>
-    ensures { OnOk result (out.new.items ≡ out.old.items ++ line_bytes (line_words (line.Recv number daemon message.now))) }
+    ensures { OnOk result (out.new.items
+        ≡ out.old.items ++ line_bytes (line_words (line.Recv number daemon message.now))) }
 {
     write_number(out, number)?;
     out.extend_from_slice(b" recv")?;
@@ -187,7 +196,8 @@ pub fn write_recv(
 /// Puts the line at which a phase ends. Without memory for all of it the answer is `AllocError`,
 /// and a part of it may stand.
 pub fn write_phase(out: &mut Vec<u8>, number: u64) -> Result<(), AllocError>
-    ensures { OnOk result (out.new.items ≡ out.old.items ++ line_bytes (line_words (line.Phase number))) }
+    ensures { OnOk result
+        (out.new.items ≡ out.old.items ++ line_bytes (line_words (line.Phase number))) }
 {
     write_number(out, number)?;
     out.extend_from_slice(b" phase\n")?;
@@ -197,7 +207,8 @@ pub fn write_phase(out: &mut Vec<u8>, number: u64) -> Result<(), AllocError>
 /// Puts the line of a live entry. Without memory for all of it the answer is `AllocError`,
 /// and a part of it may stand.
 pub fn write_route(out: &mut Vec<u8>, route: &RouteLine) -> Result<(), AllocError>
-    ensures { OnOk result (out.new.items ≡ out.old.items ++ line_bytes (line_words (line.Route route.now))) }
+    ensures { OnOk result
+        (out.new.items ≡ out.old.items ++ line_bytes (line_words (line.Route route.now))) }
 {
     out.extend_from_slice(b"route")?;
     write_spaced(out, u64::from(route.number))?;
@@ -212,7 +223,8 @@ pub fn write_route(out: &mut Vec<u8>, route: &RouteLine) -> Result<(), AllocErro
 /// Puts the line of a live vif. Without memory for all of it the answer is `AllocError`,
 /// and a part of it may stand.
 pub fn write_vif(out: &mut Vec<u8>, vif: &VifLine) -> Result<(), AllocError>
-    ensures { OnOk result (out.new.items ≡ out.old.items ++ line_bytes (line_words (line.Vif vif.now))) }
+    ensures { OnOk result
+        (out.new.items ≡ out.old.items ++ line_bytes (line_words (line.Vif vif.now))) }
 {
     out.extend_from_slice(b"vif")?;
     write_spaced(out, u64::from(vif.vif))?;
@@ -226,7 +238,8 @@ pub fn write_vif(out: &mut Vec<u8>, vif: &VifLine) -> Result<(), AllocError>
 /// Puts the line of the fate of a packet. Without memory for all of it the answer is `AllocError`,
 /// and a part of it may stand.
 pub fn write_fate(out: &mut Vec<u8>, fate: &FateLine) -> Result<(), AllocError>
-    ensures { OnOk result (out.new.items ≡ out.old.items ++ line_bytes (line_words (line.Fate fate.now))) }
+    ensures { OnOk result
+        (out.new.items ≡ out.old.items ++ line_bytes (line_words (line.Fate fate.now))) }
 {
     out.extend_from_slice(b"fate")?;
     write_spaced(out, u64::from(fate.lane.0))?;

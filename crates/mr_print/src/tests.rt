@@ -231,8 +231,15 @@ fn settles_ticks_receives_and_phases(rt: HostRuntime) -> Result<(), Fail> {
     write_recv(&mut out, 12, DaemonNo(1), &message(Kind::WrongVif))?;
     write_recv(&mut out, 13, DaemonNo(1), &message(Kind::WholePkt))?;
     write_phase(&mut out, 14)?;
-    let want =
-        "7 settle 1 3\n9 tick 1 1000\n10 recv 1 none\n11 recv 1 nocache 2 3 1\n12 recv 1 wrongvif 2 3 1\n13 recv 1 wholepkt 2 3 1\n14 phase\n";
+    let want = "\
+7 settle 1 3
+9 tick 1 1000
+10 recv 1 none
+11 recv 1 nocache 2 3 1
+12 recv 1 wrongvif 2 3 1
+13 recv 1 wholepkt 2 3 1
+14 phase
+";
     assert_eq!(rt; out.as_slice(), want.as_bytes());
     Ok(())
 }
@@ -274,8 +281,17 @@ fn ends(rt: HostRuntime) -> Result<(), Fail> {
     write_fate(&mut out, &fate(Fate::Flushed(13)))?;
     write_fate(&mut out, &fate(Fate::Waiting))?;
     write_end(&mut out)?;
-    let want =
-        "history 1\nskip 1 2 0\nroute 4 10.0.0.9 239.1.1.1 0 3 84 1\nvif 1 eth1 1 2 28 56\nfate 2 1 released 11\nfate 2 1 expired 12\nfate 2 1 flushed 13\nfate 2 1 waiting\nend\n";
+    let want = "\
+history 1
+skip 1 2 0
+route 4 10.0.0.9 239.1.1.1 0 3 84 1
+vif 1 eth1 1 2 28 56
+fate 2 1 released 11
+fate 2 1 expired 12
+fate 2 1 flushed 13
+fate 2 1 waiting
+end
+";
     assert_eq!(rt; out.as_slice(), want.as_bytes());
     Ok(())
 }

@@ -1,5 +1,6 @@
-//! The head `- INDEX LOOK` of the last record. A lane's records come in the order of their indexes, and most with the look of the one
-//! before, so the next head mostly differs in the last two digits of its index alone.
+//! The head `- INDEX LOOK` of the last record. A lane's records come in the order of their indexes,
+//! and most with the look of the one before, so the next head mostly differs in the last two digits
+//! of its index alone.
 
 ghost use Rattle.std.specs.Prelude.{◌≡◌, ◌<◌, ◌++◌, IfSome, take};
 ghost use Rattle.mr_records.specs.Ways.{index_bytes, look_bytes};

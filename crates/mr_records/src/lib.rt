@@ -1,5 +1,5 @@
-//! The lines of packets that were forwarded without the lock, written and read. A history has one for nearly each packet, and most
-//! of them repeat one of a few ways, whose bytes are kept in mind.
+//! The lines of packets that were forwarded without the lock, written and read. A history has one
+//! for nearly each packet, and most of them repeat one of a few ways, whose bytes are kept in mind.
 #![tactic(auto)]
 
 mod front;

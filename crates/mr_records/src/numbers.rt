@@ -1,6 +1,7 @@
 //! Numbers in front of a text.
 
-ghost use Rattle.std.specs.Prelude.{◌≡◌, ◌+◌, ◌<◌, ◌≤◌, ◌++◌, ◌∷◌, [], IfSome, MatchOption, decimal};
+ghost use Rattle.std.specs.Prelude.{◌≡◌, ◌+◌, ◌<◌, ◌≤◌, ◌++◌, ◌∷◌, [], IfSome, MatchOption};
+ghost use Rattle.std.specs.Prelude.{decimal};
 ghost use Rattle.mr_lines.specs.Bytes.{digits_of};
 
 use mr_words::{behind_first, is_digit};
@@ -8,7 +9,8 @@ use mr_words::{behind_first, is_digit};
 /// The digit with which a text begins, and the bytes behind it.
 #[inline(always)]
 pub fn digit(text: &[u8]) -> Option<(u32, &[u8])>
-    ensures { MatchOption result (digits_of text.now ≡ []) (λ x. (x.0 ≤ 9) × (text.now ≡ (48 + x.0) ∷ x.1.now)) }
+    ensures { MatchOption result (digits_of text.now ≡ []) (λ x.
+        (x.0 ≤ 9) × (text.now ≡ (48 + x.0) ∷ x.1.now)) }
 {
     if text.len() == 0 || !is_digit(text[0]) {
         return None;
@@ -37,11 +39,12 @@ fn digits(first: u32, text: &[u8]) -> (u32, &[u8])
     (value, left)
 }
 
-/// The number with which a text begins, and the bytes behind it; `None` where no digit is first. It has all digits that stand there,
-/// but no more than nine, and none behind a zero.
+/// The number with which a text begins, and the bytes behind it; `None` where no digit is first. It
+/// has all digits that stand there, but no more than nine, and none behind a zero.
 #[inline(always)]
 pub fn short_number(text: &[u8]) -> Option<(u32, &[u8])>
-    ensures text { MatchOption result (digits_of text.now ≡ []) (λ x. text.now ≡ decimal x.0 ++ x.1.now) }
+    ensures text { MatchOption result (digits_of text.now ≡ []) (λ x.
+        text.now ≡ decimal x.0 ++ x.1.now) }
     ensures all { IfSome result (λ x. 0 < x.0 → x.0 < 100000000 → digits_of x.1.now ≡ []) }
 {
     let (first, rest) = digit(text)?;

@@ -1,7 +1,8 @@
-//! Words that are put in front of what stands in an array, so that a line grows from its end. The array has room for the longest
-//! line of a record, whose mask may name all 32 vifs.
+//! Words that are put in front of what stands in an array, so that a line grows from its end. The
+//! array has room for the longest line of a record, whose mask may name all 32 vifs.
 
-ghost use Rattle.std.specs.Prelude.{◌≡◌, ◌+◌, ◌^◌, ◌<◌, ◌≤◌, ◌++◌, ◌∷◌, [], if◌then◌else◌, length, drop, flat_map, filter, decimal};
+ghost use Rattle.std.specs.Prelude.{◌≡◌, ◌+◌, ◌^◌, ◌<◌, ◌≤◌, ◌++◌, ◌∷◌, [], if◌then◌else◌, length};
+ghost use Rattle.std.specs.Prelude.{drop, flat_map, filter, decimal};
 ghost use Rattle.mr_model.specs.Ending.{indexes};
 ghost use Rattle.mr_model.specs.Verdict.{is_in};
 ghost use Rattle.mr_lines.specs.Forms.{mask, vif_or_none};
@@ -40,7 +41,8 @@ fn put_none(row: &mut [u8; 144], end: usize) -> usize
 #[inline(always)]
 fn put_if_in(row: &mut [u8; 144], end: usize, outs: Mask, vif: u32) -> usize
     requires { (vif < 32) × (11 ≤ end) × (end ≤ 144) }
-    ensures text { drop result row.new ≡ (if is_in outs vif then 44 ∷ decimal vif else []) ++ drop end row.old }
+    ensures text { drop result row.new
+        ≡ (if is_in outs vif then 44 ∷ decimal vif else []) ++ drop end row.old }
     ensures within { (result ≤ end) × (end ≤ result + 3) }
 {
     if (outs.0 >> vif) % 2 == 1 {
@@ -64,7 +66,8 @@ fn digits_of(bits: u32) -> u32
 fn put_items(row: &mut [u8; 144], end: usize, outs: Mask, top: u32) -> usize
     requires room { (110 ≤ end) × (end ≤ 144) }
     requires top { (outs.0 < 2 ^ top) × (top ≤ 32) }
-    ensures text { drop result row.new ≡ flat_map (λ v. 44 ∷ decimal v) (filter (is_in outs) indexes) ++ drop end row.old }
+    ensures text { drop result row.new
+        ≡ flat_map (λ v. 44 ∷ decimal v) (filter (is_in outs) indexes) ++ drop end row.old }
     ensures within { (result ≤ end) × (end ≤ result + 96) }
 {
     let mut at = end;

@@ -76,7 +76,8 @@ fn record(index: u32, look: u32, way: Way) -> FastRecord
     }
 }
 
-/// The record in front of a text, if it has the hundreds of the last index, the last look and a known way, and the bytes behind its line.
+/// The record in front of a text, if it has the hundreds of the last index, the last look and a
+/// known way, and the bytes behind its line.
 #[inline(always)]
 fn next_record<'a>(kept: &Kept, text: &'a [u8]) -> Option<(FastRecord, &'a [u8])>
     ensures line { IfSome result (λ x. text.now ≡ line_bytes (record_words x.0) ++ x.1.now) }
@@ -89,7 +90,8 @@ fn next_record<'a>(kept: &Kept, text: &'a [u8]) -> Option<(FastRecord, &'a [u8])
     Some((record(index, look, known.way), left))
 }
 
-/// The record in front of a text, if its way is known, and the bytes behind its line. Its head is kept.
+/// The record in front of a text, if its way is known, and the bytes behind its line. Its head is
+/// kept.
 #[inline(always)]
 fn known_record<'a>(kept: &mut Kept, text: &'a [u8]) -> Option<(FastRecord, &'a [u8])>
     ensures line { IfSome result (λ x. text.now ≡ line_bytes (record_words x.0) ++ x.1.now) }
@@ -121,7 +123,8 @@ fn take_any<'a>(
     records: &mut Vec<FastRecord>,
     text: &'a [u8],
 ) -> Result<Option<&'a [u8]>, AllocError>
-    ensures { IfOk result (λ rest. TakesOnto (λ r. r.now) records.old.items records.new.items rest (first_record (parts_of 10 text.now))) }
+    ensures { IfOk result (λ rest. TakesOnto (λ r. r.now) records.old.items records.new.items rest
+        (first_record (parts_of 10 text.now))) }
 {
     let Some((record, rest)) = any_record(ways, text) else {
         return Ok(None);
@@ -137,7 +140,8 @@ fn take_other<'a>(
     records: &mut Vec<FastRecord>,
     text: &'a [u8],
 ) -> Result<Option<&'a [u8]>, AllocError>
-    ensures { IfOk result (λ rest. TakesOnto (λ r. r.now) records.old.items records.new.items rest (first_record (parts_of 10 text.now))) }
+    ensures { IfOk result (λ rest. TakesOnto (λ r. r.now) records.old.items records.new.items rest
+        (first_record (parts_of 10 text.now))) }
 {
     match known_record(kept, text) {
         Some((record, rest)) => {
@@ -148,15 +152,17 @@ fn take_other<'a>(
     }
 }
 
-/// Puts the record in front of a text behind others, and answers the bytes behind its line. Where the first line is no record, or
-/// has no line feed, the answer is `None` and nothing is put. Without memory the answer is `AllocError`.
+/// Puts the record in front of a text behind others, and answers the bytes behind its line. Where
+/// the first line is no record, or has no line feed, the answer is `None` and nothing is put.
+/// Without memory the answer is `AllocError`.
 #[inline(always)]
 pub fn take_record<'a>(
     kept: &mut Kept,
     records: &mut Vec<FastRecord>,
     text: &'a [u8],
 ) -> Result<Option<&'a [u8]>, AllocError>
-    ensures { IfOk result (λ rest. TakesOnto (λ r. r.now) records.old.items records.new.items rest (first_record (parts_of 10 text.now))) }
+    ensures { IfOk result (λ rest. TakesOnto (λ r. r.now) records.old.items records.new.items rest
+        (first_record (parts_of 10 text.now))) }
 {
     match next_record(kept, text) {
         Some((record, rest)) => {

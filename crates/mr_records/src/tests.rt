@@ -34,8 +34,15 @@ fn records() -> [FastRecord; 6] {
     ]
 }
 
-const LINES: &str =
-    "- 4294967295 6 50 0 1,2\n- 9 6 50 0 1,2\n- 10 7 50 - -\n- 99 7 50 - -\n- 100 4294967295 50 255 0,1,2,3,4,5,6,7,8,9,10,11,12,13,14,15,16,17,18,19,20,21,22,23,24,25,26,27,28,29,30,31\n- 0 0 50 255 0,1,2,3,4,5,6,7,8,9,10,11,12,13,14,15,16,17,18,19,20,21,22,23,24,25,26,27,28,29,30,31\n";
+const LINES: &str = "\
+- 4294967295 6 50 0 1,2
+- 9 6 50 0 1,2
+- 10 7 50 - -
+- 99 7 50 - -
+- 100 4294967295 50 255 \
+    0,1,2,3,4,5,6,7,8,9,10,11,12,13,14,15,16,17,18,19,20,21,22,23,24,25,26,27,28,29,30,31
+- 0 0 50 255 0,1,2,3,4,5,6,7,8,9,10,11,12,13,14,15,16,17,18,19,20,21,22,23,24,25,26,27,28,29,30,31
+";
 
 #[test]
 fn written(rt: HostRuntime) -> Result<(), Fail> {
@@ -70,7 +77,8 @@ fn taken(rt: HostRuntime) -> Result<(), Fail> {
     Ok(())
 }
 
-/// The records of a line that comes three times, between one of index 100 and look 6 and two others.
+/// The records of a line that comes three times, between one of index 100 and look 6 and two
+/// others.
 fn take_between(alloc: Global, line: &str) -> Result<Vec<FastRecord>, AllocError> {
     let mut text = Vec::new(alloc);
     text.extend_from_slice(b"- 100 6 50 0 1,2\n")?;
@@ -107,7 +115,8 @@ fn heads(rt: HostRuntime) -> Result<(), Fail> {
     Ok(())
 }
 
-/// Whether no record is in front of a text, before its head and its way are known and behind a record with both.
+/// Whether no record is in front of a text, before its head and its way are known and behind a
+/// record with both.
 fn refuses(alloc: Global, text: &[u8]) -> Result<bool, AllocError> {
     let mut kept = Kept::new();
     let mut records = Vec::new(alloc);

@@ -5,15 +5,15 @@ ghost use Rattle.std.specs.Prelude.{◌<◌};
 use crate::known::Known;
 use crate::way::Way;
 
-/// Ways of the last records, with their bytes. A writer finds them by their entries, a reader by their first bytes; so each has
-/// ways of its own.
+/// Ways of the last records, with their bytes. A writer finds them by their entries, a reader by
+/// their first bytes; so each has ways of its own.
 #[derive(Drop)]
 pub struct Ways {
     known: [Known; 256],
 }
 
-/// The place of the way with which bytes begin. The number by which the first four are multiplied was found by trial: no two of the
-/// entries 1 to 110 meet.
+/// The place of the way with which bytes begin. The number by which the first four are multiplied
+/// was found by trial: no two of the entries 1 to 110 meet.
 #[inline(always)]
 fn place(bytes: &[u8]) -> usize
     ensures { result < 256 }

@@ -28,7 +28,8 @@ pub fn way_of(packet: &FastRecord) -> Way
 #[inline(always)]
 fn put_head<const N: usize>(row: &mut [u8; N], end: usize, packet: &FastRecord) -> usize
     requires { (23 ≤ end) × (end ≤ N) }
-    ensures text { drop result row.new ≡ head_bytes packet.now.index packet.now.look ++ drop end row.old }
+    ensures text { drop result row.new
+        ≡ head_bytes packet.now.index packet.now.look ++ drop end row.old }
     ensures start { result + length (head_bytes packet.now.index packet.now.look) ≡ end }
 {
     let look = put_part(row, end, b' ', packet.look);
@@ -47,8 +48,9 @@ fn put_record(row: &mut [u8; 144], packet: &FastRecord) -> usize
     put_head(row, at, packet)
 }
 
-/// Puts the bytes of a row from one index to another behind a text. A fixed number of bytes is copied, and what is too much is taken
-/// off again: this is quicker than to copy a number of bytes that varies.
+/// Puts the bytes of a row from one index to another behind a text. A fixed number of bytes is
+/// copied, and what is too much is taken off again: this is quicker than to copy a number of bytes
+/// that varies.
 #[inline(always)]
 fn write_part(out: &mut Vec<u8>, row: &[u8; 80], from: usize, to: usize) -> Result<(), AllocError>
     requires { (from ≤ 24) × (from ≤ to) × (to ≤ 56) }
@@ -92,8 +94,8 @@ fn write_new(out: &mut Vec<u8>, ways: &mut Ways, packet: &FastRecord) -> Result<
     Ok(())
 }
 
-/// Puts the line of a packet that was forwarded without the lock. Without memory for all of it the answer is `AllocError`,
-/// and a part of it may stand.
+/// Puts the line of a packet that was forwarded without the lock. Without memory for all of it the
+/// answer is `AllocError`, and a part of it may stand.
 #[inline(always)]
 pub fn write_record(
     out: &mut Vec<u8>,

@@ -1,4 +1,5 @@
-ghost use Rattle.std.specs.Prelude.{◌≡◌, ◌≤◌, ◌+◌, length, map, option_map, IfOk, IfErr, IfSome, OnErr};
+ghost use Rattle.std.specs.Prelude.{◌≡◌, ◌≤◌, ◌+◌, length, map, option_map, IfOk, IfErr, IfSome};
+ghost use Rattle.std.specs.Prelude.{OnErr};
 ghost use Rattle.std.specs.List.{AllByRecursion};
 ghost use mathlib.Core.List.{IsPrefix};
 ghost use Rattle.mr_book.specs.Views.{with_seen};
@@ -25,8 +26,8 @@ use std::alloc::Global;
 use std::marker::{Model, PhantomData};
 use std::sync::Wait;
 
-/// A daemon at the router `B` of the run `C`. Contracts see its number and the history as it has last
-/// seen it. It may go to another thread.
+/// A daemon at the router `B` of the run `C`. Contracts see its number and the history as it has
+/// last seen it. It may go to another thread.
 #[derive(Drop)]
 pub struct Daemon<B: BookName, C: RunName> {
     pub(crate) seat: Seat<Signed, B>,
@@ -54,7 +55,8 @@ impl<B: BookName, C: RunName> Daemon<B, C> {
     /// # Errors
     ///
     /// [`CallError::ControlFull`] exactly where no control entry is left when the lock is got; then
-    /// there is no entry, and the daemon has seen a history with none left. No other error comes yet.
+    /// there is no entry, and the daemon has seen a history with none left. No other error comes
+    /// yet.
     pub fn call<R: Wait>(
         &mut self,
         rt: &R,
@@ -91,8 +93,8 @@ impl<B: BookName, C: RunName> Daemon<B, C> {
     ///
     /// # Errors
     ///
-    /// [`ControlFull`] exactly where no control entry is left when the lock is got; then there is no
-    /// entry, and the daemon has seen a history with none left.
+    /// [`ControlFull`] exactly where no control entry is left when the lock is got; then there is
+    /// no entry, and the daemon has seen a history with none left.
     pub fn recv<R: Wait>(
         &mut self,
         rt: &R,
@@ -124,8 +126,8 @@ impl<B: BookName, C: RunName> Daemon<B, C> {
     ///
     /// # Errors
     ///
-    /// [`ControlFull`] exactly where no control entry is left when the lock is got; then there is no
-    /// entry, and the daemon has seen a history with none left.
+    /// [`ControlFull`] exactly where no control entry is left when the lock is got; then there is
+    /// no entry, and the daemon has seen a history with none left.
     pub fn tick<R: Wait>(
         &mut self,
         rt: &R,

@@ -31,8 +31,8 @@ pub struct Handled {
     pub packet: Option<Packet>,
 }
 
-/// A lane of packets at the router `B` of the run `C`. Contracts see its number and the history as it
-/// has last seen it. It may go to another thread.
+/// A lane of packets at the router `B` of the run `C`. Contracts see its number and the history as
+/// it has last seen it. It may go to another thread.
 #[derive(Drop)]
 pub struct Lane<B: BookName, C: RunName> {
     pub(crate) seat: Seat<Signed, B>,

@@ -1,4 +1,5 @@
-ghost use Rattle.std.specs.Prelude.{◌≡◌, ◌<◌, ◌≤◌, ◌+◌, ◌^◌, ◌↔◌, [], ◌∷◌, ◌++◌, List, length, map, option_map, IfOk, IfSome, IsErr, OnErr};
+ghost use Rattle.std.specs.Prelude.{◌≡◌, ◌<◌, ◌≤◌, ◌+◌, ◌^◌, ◌↔◌, [], ◌∷◌, ◌++◌, List, length, map};
+ghost use Rattle.std.specs.Prelude.{option_map, IfOk, IfSome, IsErr, OnErr};
 ghost use Rattle.std.specs.List.{AllByRecursion};
 ghost use Rattle.mr_history.specs.Fits.{FitsLimits};
 ghost use Rattle.mr_kernel.specs.Flows.{IsKnown, IsHeadOf, flow_of, id_of, back_by};

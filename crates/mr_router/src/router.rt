@@ -97,8 +97,8 @@ impl<B: BookName, C: RunName> Router<B, C> {
     }
 
     /// A phase ends, of which one has to be left: one entry, of the router itself. All that the
-    /// lanes and daemons have seen stands before it, and each of them has then seen the history with
-    /// it. They are all that `open` gave. It takes no memory.
+    /// lanes and daemons have seen stands before it, and each of them has then seen the history
+    /// with it. They are all that `open` gave. It takes no memory.
     pub fn end_phase<R: Wait>(
         &mut self,
         rt: &R,
@@ -121,9 +121,9 @@ impl<B: BookName, C: RunName> Router<B, C> {
         loops::announce_daemons(rt, &self.book, &mut self.seat, end, daemons);
     }
 
-    /// The machine, once no thread shares it: its history begins with all that the router, the lanes
-    /// and the daemons have seen, and has of each just the entries that it made. They are all that
-    /// `open` gave. It takes no memory.
+    /// The machine, once no thread shares it: its history begins with all that the router, the
+    /// lanes and the daemons have seen, and has of each just the entries that it made. They are all
+    /// that `open` gave. It takes no memory.
     pub fn close<R: Wait>(
         self,
         rt: &R,

@@ -2,8 +2,8 @@ use mr_book::Authored;
 use mr_model::Entry;
 use std::marker::Model;
 
-/// An entry of the history as the book knows it, with who made it. Contracts see the entry. No value
-/// of it is made.
+/// An entry of the history as the book knows it, with who made it. Contracts see the entry. No
+/// value of it is made.
 #[derive(Drop)]
 pub struct Signed {
     entry: Entry,

@@ -19,8 +19,9 @@ pub fn nothing_happens()
     ensures ending { ending nothing.limits nothing.history ≡ nothing.tail }
 {}
 
-/// A packet of one lane is forwarded without the lock while one of another lane misses. Both orders are legal and
-/// lively, and both end alike. The packet that waited is released with its own lane's number.
+/// A packet of one lane is forwarded without the lock while one of another lane misses. Both orders
+/// are legal and lively, and both end alike. The packet that waited is released with its own lane's
+/// number.
 pub fn two_lanes()
     ensures legal { IsLegal lanes.limits lanes.history }
     ensures lively { IsLively lanes.limits lanes.history }
@@ -30,7 +31,8 @@ pub fn two_lanes()
     ensures other_ending { ending lanes.limits lanes.other_history ≡ lanes.tail }
 {}
 
-/// A lane's packets are counted by 64 at most at a time, and a full count may be followed by another one.
+/// A lane's packets are counted by 64 at most at a time, and a full count may be followed by
+/// another one.
 pub fn full_settle()
     ensures legal { IsLegal full_settle.limits full_settle.history }
     ensures lively { IsLively full_settle.limits full_settle.history }
@@ -39,8 +41,9 @@ pub fn full_settle()
     ensures overfull { IsLegal full_settle.limits full_settle.overfull → ⊥ }
 {}
 
-/// A packet is forwarded by what its look had seen, also where its entry is gone when it is counted. It is a step
-/// behind that look, counts for its entry from its counting on, and for no vif that was made after its look.
+/// A packet is forwarded by what its look had seen, also where its entry is gone when it is
+/// counted. It is a step behind that look, counts for its entry from its counting on, and for no
+/// vif that was made after its look.
 pub fn old_looks()
     ensures legal { IsLegal looks.limits looks.history }
     ensures lively { IsLively looks.limits looks.history }

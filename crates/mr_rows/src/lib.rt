@@ -1,5 +1,6 @@
-//! Worked histories of the one-thread multicast machine, each shown to be legal and to have its ending
-//! by computing the definitions of `mr_model` on it; and one that has what its scenario asks, by those of `mr_load`.
+//! Worked histories of the one-thread multicast machine, each shown to be legal and to have its
+//! ending by computing the definitions of `mr_model` on it; and one that has what its scenario
+//! asks, by those of `mr_load`.
 #![tactic(auto)]
 
 mod control;

@@ -1,7 +1,8 @@
 //! One value of a worked history or ending is another, and it is none.
 
 ghost use Rattle.std.specs.Prelude.{◌≡◌, ℕ, true};
-ghost use Rattle.mr_model.specs.declared.ending.Fate.TheVariants.{Released, Expired, Flushed, Waiting};
+ghost use Rattle.mr_model.specs.declared.ending.Fate.TheVariants.{Released, Expired, Flushed};
+ghost use Rattle.mr_model.specs.declared.ending.Fate.TheVariants.{Waiting};
 ghost use Rattle.mr_model.specs.Ending.{ending};
 ghost use Rattle.mr_model.specs.Fate.{IsFate, was_parked};
 ghost use Rattle.mr_model.specs.Legal.{IsLegal};
@@ -26,8 +27,8 @@ ghost use Rattle.mr_rows.specs.WildcardReleasesNothing as wildcard;
 ghost use Rattle.mr_rows.specs.WrongInterface as wrong;
 ghost use Rattle.mr_rows.specs.NearMisses as misses;
 
-/// A call has one answer: another errno, a grant without a right to it, a second owner, a daemon that there is
-/// not, or the counts of an entry that is gone make no legal history.
+/// A call has one answer: another errno, a grant without a right to it, a second owner, a daemon
+/// that there is not, or the counts of an entry that is gone make no legal history.
 pub fn control_near_misses()
     ensures other_errno { IsLegal errors.limits misses.other_errno → ⊥ }
     ensures deleted_twice { IsLegal errors.limits misses.deleted_twice → ⊥ }
@@ -38,8 +39,9 @@ pub fn control_near_misses()
     ensures old_counts { IsLegal again.limits misses.old_counts → ⊥ }
 {}
 
-/// A packet goes out just where the rules say: not at an equal TTL, not on a vif that its entry does not know,
-/// not back, not by a wildcard where there is a closer entry. Without the lock nothing but a plain forward passes.
+/// A packet goes out just where the rules say: not at an equal TTL, not on a vif that its entry
+/// does not know, not back, not by a wildcard where there is a closer entry. Without the lock
+/// nothing but a plain forward passes.
 pub fn forwarding_near_misses()
     ensures equal_ttl { IsLegal levels.limits misses.equal_ttl → ⊥ }
     ensures late_vif { IsLegal later.limits misses.late_vif → ⊥ }
@@ -50,8 +52,8 @@ pub fn forwarding_near_misses()
     ensures empty_settle { IsLegal ordinary.limits misses.empty_settle → ⊥ }
 {}
 
-/// A look lies between what its lane has seen and the present, the indexes of a lane rise, and lanes are those
-/// of the limits, as are packets, phases and control entries.
+/// A look lies between what its lane has seen and the present, the indexes of a lane rise, and
+/// lanes are those of the limits, as are packets, phases and control entries.
 pub fn place_near_misses()
     ensures old_look { IsLegal ordinary.limits misses.old_look → ⊥ }
     ensures old_settled_look { IsLegal ordinary.limits misses.old_settled_look → ⊥ }
@@ -69,8 +71,8 @@ pub fn place_near_misses()
     ensures three_controls { IsLegal misses.three_controls ordinary.history → ⊥ }
 {}
 
-/// A packet waits just where it is to wait, is released once and by its own entry, and is dropped for the first
-/// cause that holds.
+/// A packet waits just where it is to wait, is released once and by its own entry, and is dropped
+/// for the first cause that holds.
 pub fn waiting_near_misses()
     ensures fifth_parked { IsLegal release.limits misses.fifth_parked → ⊥ }
     ensures released_twice { IsLegal release.limits misses.released_twice → ⊥ }
@@ -81,8 +83,8 @@ pub fn waiting_near_misses()
     ensures eleventh_parked { IsLegal full.limits misses.eleventh_parked → ⊥ }
 {}
 
-/// A report is told, lost or left out just as the rules say, and a receive gives the oldest unread one, once
-/// and to the owner alone.
+/// A report is told, lost or left out just as the rules say, and a receive gives the oldest unread
+/// one, once and to the owner alone.
 pub fn report_near_misses()
     ensures told_though_quiet { IsLegal wrong.limits misses.told_though_quiet → ⊥ }
     ensures quiet_at_first { IsLegal wrong.limits misses.quiet_at_first → ⊥ }
@@ -94,8 +96,8 @@ pub fn report_near_misses()
     ensures read_by_another { IsLegal leaving.limits misses.read_by_another → ⊥ }
 {}
 
-/// A packet that waits expires at the tick that makes ten seconds full, not at the one before, and not a
-/// millisecond early; and an entry that another admin made is static in the ending.
+/// A packet that waits expires at the tick that makes ten seconds full, not at the one before, and
+/// not a millisecond early; and an entry that another admin made is static in the ending.
 pub fn ending_near_misses()
     ensures early { ending expiring.limits expiring.history ≡ misses.early_tail → ⊥ }
     ensures short_ticks { ending expiring.limits misses.short_ticks ≡ expiring.tail → ⊥ }
@@ -118,8 +120,8 @@ pub fn fate_near_misses()
     ensures again_refused { IsLegal release.limits misses.released_again → ⊥ }
 {}
 
-/// A lively history takes the lock for no plain forward, and settles a lane's packets together as long as
-/// nothing else stands between. Both of these are legal, and neither is lively.
+/// A lively history takes the lock for no plain forward, and settles a lane's packets together as
+/// long as nothing else stands between. Both of these are legal, and neither is lively.
 pub fn lively_near_misses()
     ensures slow_forward { IsLively ordinary.limits ordinary.history → ⊥ }
     ensures split_legal { IsLegal misses.two_packets misses.split_settles }

@@ -15,8 +15,9 @@ ghost use Rattle.mr_rows.specs.RegisterReport as copied;
 ghost use Rattle.mr_rows.specs.ReleasedReports as releases;
 ghost use Rattle.mr_rows.specs.WrongInterface as wrong;
 
-/// A packet on a wrong interface is reported again only where more than three seconds have passed since the
-/// last report of its entry. Each of them counts for the entry and as wrong, and on no vif.
+/// A packet on a wrong interface is reported again only where more than three seconds have passed
+/// since the last report of its entry. Each of them counts for the entry and as wrong, and on no
+/// vif.
 pub fn wrong_interface()
     ensures legal { IsLegal wrong.limits wrong.history }
     ensures ending { ending wrong.limits wrong.history ≡ wrong.tail }
@@ -35,7 +36,8 @@ pub fn register_report()
     ensures lively { IsLively copied.limits copied.history }
 {}
 
-/// With 64 unread reports a further copy is lost, though it counts, and a packet that misses is dropped.
+/// With 64 unread reports a further copy is lost, though it counts, and a packet that misses is
+/// dropped.
 pub fn register_copies_lost()
     ensures legal { IsLegal lost.limits lost.history }
     ensures ending { ending lost.limits lost.history ≡ lost.tail }
@@ -44,8 +46,8 @@ pub fn register_copies_lost()
     ensures accepts_none { accepts lost.limits lost.history ≡ false }
 {}
 
-/// With pim on a wrong interface is reported for an entry that does not reach it; with pim off and assert on it is
-/// not.
+/// With pim on a wrong interface is reported for an entry that does not reach it; with pim off and
+/// assert on it is not.
 pub fn pim_reports()
     ensures legal { IsLegal by_pim.limits by_pim.history }
     ensures lively { IsLively by_pim.limits by_pim.history }
@@ -62,12 +64,13 @@ pub fn nobody_is_told()
     ensures unread { unread untold.limits untold.history ≡ [] }
 {}
 
-/// A new entry judges the packets that it releases one after another, and what the earlier ones told and attempted
-/// stands before the later ones.
+/// A new entry judges the packets that it releases one after another, and what the earlier ones
+/// told and attempted stands before the later ones.
 pub fn released_reports()
     ensures legal { IsLegal releases.limits releases.history }
     ensures lively { IsLively releases.limits releases.history }
     ensures ending { ending releases.limits releases.history ≡ releases.tail }
-    ensures unread { unread releases.limits (releases.before_entry ++ releases.entry_made ∷ []) ≡ releases.reports }
+    ensures unread { unread releases.limits (releases.before_entry ++ releases.entry_made ∷ [])
+        ≡ releases.reports }
     ensures attempt { attempt releases.history 12 ≡ Some 0 }
 {}

@@ -1,7 +1,8 @@
 //! Packets that miss.
 
 ghost use Rattle.std.specs.Prelude.{◌≡◌, [], ◌∷◌};
-ghost use Rattle.mr_model.specs.declared.ending.Fate.TheVariants.{Released, Expired, Flushed, Waiting};
+ghost use Rattle.mr_model.specs.declared.ending.Fate.TheVariants.{Released, Expired, Flushed};
+ghost use Rattle.mr_model.specs.declared.ending.Fate.TheVariants.{Waiting};
 ghost use Rattle.mr_model.specs.Ending.{ending};
 ghost use Rattle.mr_model.specs.Fate.{IsFate};
 ghost use Rattle.mr_model.specs.Legal.{IsLegal};
@@ -21,8 +22,8 @@ ghost use Rattle.mr_rows.specs.WaitingPacketsReleased as release;
 ghost use Rattle.mr_rows.specs.WaitsFromTheFirst as first_packet;
 ghost use Rattle.mr_rows.specs.WildcardReleasesNothing as wildcard;
 
-/// Four packets of one source and group wait, a fifth is dropped. A new entry releases the four, oldest
-/// first, and counts them at its own call.
+/// Four packets of one source and group wait, a fifth is dropped. A new entry releases the four,
+/// oldest first, and counts them at its own call.
 pub fn waiting_packets_released()
     ensures legal { IsLegal release.limits release.history }
     ensures ending { ending release.limits release.history ≡ release.tail }
@@ -71,8 +72,8 @@ pub fn waiting_entries_full()
     ensures lively { IsLively full.limits full.history }
 {}
 
-/// The packets of one source and group expire together, ten seconds after the first of them missed. The next one
-/// then makes another waiting entry, which is reported again.
+/// The packets of one source and group expire together, ten seconds after the first of them missed.
+/// The next one then makes another waiting entry, which is reported again.
 pub fn waits_from_the_first()
     ensures legal { IsLegal first_packet.limits first_packet.history }
     ensures lively { IsLively first_packet.limits first_packet.history }
@@ -81,7 +82,8 @@ pub fn waits_from_the_first()
     ensures now { now first_packet.history ≡ 16000 }
 {}
 
-/// A packet joins the waiting entry of its source and group also where no further entry may be made, up to four.
+/// A packet joins the waiting entry of its source and group also where no further entry may be
+/// made, up to four.
 pub fn joins_when_full()
     ensures legal { IsLegal joining.limits joining.history }
     ensures lively { IsLively joining.limits joining.history }
@@ -89,7 +91,8 @@ pub fn joins_when_full()
     ensures waiting { waiting joining.limits joining.history ≡ joining.joined }
 {}
 
-/// Want of a waiting entry is found before want of room for a report; and a packet that joins needs no report.
+/// Want of a waiting entry is found before want of room for a report; and a packet that joins needs
+/// no report.
 pub fn no_room_twice()
     ensures legal { IsLegal twice.limits twice.history }
     ensures lively { IsLively twice.limits twice.history }

@@ -4,7 +4,8 @@ use mr_base::FileName;
 use std::alloc::{AllocError, AllocFailed, Global};
 use std::marker::Model;
 
-/// The name of a file on the heap, at most 255 bytes, which contracts see as its bytes. An item is small with it.
+/// The name of a file on the heap, at most 255 bytes, which contracts see as its bytes. An item is
+/// small with it.
 #[derive(Debug, Drop)]
 pub struct BoxedName(Box<FileName>);
 

@@ -1,7 +1,8 @@
 //! Just so many words of a line.
 
 ghost use Rattle.std.specs.Prelude.{◌≡◌, None, [], ◌∷◌, MatchOption};
-ghost use Rattle.mr_scenario.specs.Counts.{none_of, one_of, two_of, three_of, four_of, some_of, two_led, three_led};
+ghost use Rattle.mr_scenario.specs.Counts.{none_of, one_of, two_of, three_of, four_of, some_of};
+ghost use Rattle.mr_scenario.specs.Counts.{two_led, three_led};
 ghost use Rattle.mr_words.specs.Words.{words_of};
 
 use mr_words::next_word;
@@ -18,7 +19,8 @@ pub fn no_words(words: &[u8]) -> Option<()>
 
 /// One word alone.
 pub fn one_word(words: &[u8]) -> Option<&[u8]>
-    ensures { MatchOption result (one_of (words_of words.now) ≡ None) (λ x. words_of words.now ≡ x.now ∷ []) }
+    ensures { MatchOption result (one_of (words_of words.now) ≡ None) (λ x.
+        words_of words.now ≡ x.now ∷ []) }
 {
     let (a, rest) = next_word(words)?;
     match next_word(rest) {
@@ -29,7 +31,8 @@ pub fn one_word(words: &[u8]) -> Option<&[u8]>
 
 /// Just two words.
 pub fn two_words(words: &[u8]) -> Option<(&[u8], &[u8])>
-    ensures { MatchOption result (two_of (words_of words.now) ≡ None) (λ x. words_of words.now ≡ x.0.now ∷ x.1.now ∷ []) }
+    ensures { MatchOption result (two_of (words_of words.now) ≡ None) (λ x.
+        words_of words.now ≡ x.0.now ∷ x.1.now ∷ []) }
 {
     let (a, rest) = next_word(words)?;
     let (b, rest) = next_word(rest)?;
@@ -41,7 +44,8 @@ pub fn two_words(words: &[u8]) -> Option<(&[u8], &[u8])>
 
 /// Just three words.
 pub fn three_words(words: &[u8]) -> Option<(&[u8], &[u8], &[u8])>
-    ensures { MatchOption result (three_of (words_of words.now) ≡ None) (λ x. words_of words.now ≡ x.0.now ∷ x.1.now ∷ x.2.now ∷ []) }
+    ensures { MatchOption result (three_of (words_of words.now) ≡ None) (λ x.
+        words_of words.now ≡ x.0.now ∷ x.1.now ∷ x.2.now ∷ []) }
 {
     let (a, rest) = next_word(words)?;
     let (b, rest) = next_word(rest)?;
@@ -54,7 +58,8 @@ pub fn three_words(words: &[u8]) -> Option<(&[u8], &[u8], &[u8])>
 
 /// Just four words.
 pub fn four_words(words: &[u8]) -> Option<(&[u8], &[u8], &[u8], &[u8])>
-    ensures { MatchOption result (four_of (words_of words.now) ≡ None) (λ x. words_of words.now ≡ x.0.now ∷ x.1.now ∷ x.2.now ∷ x.3.now ∷ []) }
+    ensures { MatchOption result (four_of (words_of words.now) ≡ None) (λ x.
+        words_of words.now ≡ x.0.now ∷ x.1.now ∷ x.2.now ∷ x.3.now ∷ []) }
 {
     let (a, rest) = next_word(words)?;
     let (b, rest) = next_word(rest)?;
@@ -68,7 +73,8 @@ pub fn four_words(words: &[u8]) -> Option<(&[u8], &[u8], &[u8], &[u8])>
 
 /// The first of one word or more, and the others.
 pub fn some_words(words: &[u8]) -> Option<(&[u8], &[u8])>
-    ensures { MatchOption result (some_of (words_of words.now) ≡ None) (λ x. words_of words.now ≡ x.0.now ∷ words_of x.1.now) }
+    ensures { MatchOption result (some_of (words_of words.now) ≡ None) (λ x.
+        words_of words.now ≡ x.0.now ∷ words_of x.1.now) }
 {
     let (a, rest) = next_word(words)?;
     Some((a, rest))
@@ -76,7 +82,8 @@ pub fn some_words(words: &[u8]) -> Option<(&[u8], &[u8])>
 
 /// The first ones of two words or more, and the others.
 pub fn led_by_two(words: &[u8]) -> Option<(&[u8], &[u8], &[u8])>
-    ensures { MatchOption result (two_led (words_of words.now) ≡ None) (λ x. words_of words.now ≡ x.0.now ∷ x.1.now ∷ words_of x.2.now) }
+    ensures { MatchOption result (two_led (words_of words.now) ≡ None) (λ x.
+        words_of words.now ≡ x.0.now ∷ x.1.now ∷ words_of x.2.now) }
 {
     let (a, rest) = next_word(words)?;
     let (b, rest) = next_word(rest)?;
@@ -85,7 +92,8 @@ pub fn led_by_two(words: &[u8]) -> Option<(&[u8], &[u8], &[u8])>
 
 /// The first ones of three words or more, and the others.
 pub fn led_by_three(words: &[u8]) -> Option<(&[u8], &[u8], &[u8], &[u8])>
-    ensures { MatchOption result (three_led (words_of words.now) ≡ None) (λ x. words_of words.now ≡ x.0.now ∷ x.1.now ∷ x.2.now ∷ words_of x.3.now) }
+    ensures { MatchOption result (three_led (words_of words.now) ≡ None) (λ x.
+        words_of words.now ≡ x.0.now ∷ x.1.now ∷ x.2.now ∷ words_of x.3.now) }
 {
     let (a, rest) = next_word(words)?;
     let (b, rest) = next_word(rest)?;

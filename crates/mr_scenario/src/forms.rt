@@ -1,7 +1,8 @@
 //! The forms of single words: numbers, addresses, names of devices, local fields, thresholds.
 
 ghost use Rattle.std.specs.Prelude.{◌≡◌, ◌≤◌, false, length, replicate, IfOk};
-ghost use Rattle.mr_scenario.specs.Forms.{number_in, number_word, positive_word, address_word, is_taken, device_of, local_word, thresholds_from};
+ghost use Rattle.mr_scenario.specs.Forms.{number_in, number_word, positive_word, address_word};
+ghost use Rattle.mr_scenario.specs.Forms.{is_taken, device_of, local_word, thresholds_from};
 ghost use Rattle.mr_words.specs.Words.{words_of};
 
 use crate::scenario::Named;
@@ -81,9 +82,11 @@ pub fn local_word(place: u32, word: &[u8]) -> Result<u32, Mistake>
     }
 }
 
-/// The thresholds that words `V:T` give, each vif once; 0 for a vif that is not given. The first stands at place 6.
+/// The thresholds that words `V:T` give, each vif once; 0 for a vif that is not given. The first
+/// stands at place 6.
 pub fn thresholds(words: &[u8]) -> Result<[u8; 32], Mistake>
-    ensures { result ≡ thresholds_from 6 (replicate 32 0) (replicate 32 false) (words_of words.now) }
+    ensures { result
+        ≡ thresholds_from 6 (replicate 32 0) (replicate 32 false) (words_of words.now) }
 {
     let mut place = 6u32;
     let mut ttls = [0u8; 32];

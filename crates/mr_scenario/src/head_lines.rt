@@ -2,7 +2,10 @@
 
 ghost use Rattle.std.specs.Prelude.{◌≡◌, ◌≤◌, [], length, is_none, Option, OnOk};
 ghost use Rattle.mr_scenario.specs.Answers.{Reads, Steps};
-ghost use Rattle.mr_scenario.specs.HeadLines.{header_line, limit, entries_limit, unresolved_limit, control_limit, limit_by_name, limit_line, lanes_line, device_line, with_daemon, daemon_by_word, daemon_line, files_from, smc_line};
+ghost use Rattle.mr_scenario.specs.HeadLines.{header_line, limit, entries_limit, unresolved_limit};
+ghost use Rattle.mr_scenario.specs.HeadLines.{control_limit, limit_by_name, limit_line, lanes_line};
+ghost use Rattle.mr_scenario.specs.HeadLines.{device_line, with_daemon, daemon_by_word};
+ghost use Rattle.mr_scenario.specs.HeadLines.{daemon_line, files_from, smc_line};
 ghost use Rattle.mr_words.specs.Words.{words_of};
 
 use crate::counting::{one_word, two_words};

@@ -41,7 +41,8 @@ fn digit(b: u8) -> u16
 
 /// The byte that two hex digits spell.
 fn byte_of(high: u8, low: u8) -> Option<u8>
-    ensures { result ≡ option_and_then (λ h. option_map (λ l. h * 16 + l) (hex_digit low)) (hex_digit high) }
+    ensures { result
+        ≡ option_and_then (λ h. option_map (λ l. h * 16 + l) (hex_digit low)) (hex_digit high) }
 {
     let value = digit(high) * 16 + digit(low);
     if value < 256 { Some(value as u8) } else { None }

@@ -1,4 +1,5 @@
-//! Scenarios: what a run is asked to do, what the lines of a text spell, and the reader that gives it.
+//! Scenarios: what a run is asked to do, what the lines of a text spell, and the reader that gives
+//! it.
 #![tactic(auto)]
 
 mod boxed_name;

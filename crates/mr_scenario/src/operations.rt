@@ -1,8 +1,11 @@
-//! All operations of daemons: each by the words behind its own. The number of words is tested first, then who asks.
+//! All operations of daemons: each by the words behind its own. The number of words is tested
+//! first, then who asks.
 
 ghost use Rattle.std.specs.Prelude.{◌≡◌};
 ghost use Rattle.mr_scenario.specs.Answers.{Reads};
-ghost use Rattle.mr_scenario.specs.Requests.{raw_script, tick_script, recv_script, start_script, poll_script, joined_from, words_script, smcroute_script, script_of};
+ghost use Rattle.mr_scenario.specs.Requests.{raw_script, tick_script, recv_script, start_script};
+ghost use Rattle.mr_scenario.specs.Requests.{poll_script, joined_from, words_script};
+ghost use Rattle.mr_scenario.specs.Requests.{smcroute_script, script_of};
 ghost use Rattle.mr_words.specs.Words.{words_of};
 
 use crate::counting::{no_words, one_word, some_words, two_words};

@@ -2,7 +2,11 @@
 
 ghost use Rattle.std.specs.Prelude.{◌≡◌, ◌<◌, ◌≤◌, ◌-◌, None, true, is_some, length, OnOk};
 ghost use Rattle.mr_scenario.specs.Answers.{Steps};
-ghost use Rattle.mr_scenario.specs.PhaseLines.{lanes_of, phases_so_far, phase_line, phase_of, with_item, with_packet, device_word, packet_item, trace_item, item_by_word, lane_line, is_smc, is_smc_at, daemon_word, who_of, with_script, script_line};
+ghost use Rattle.mr_scenario.specs.PhaseLines.{lanes_of, phases_so_far, phase_line, phase_of};
+ghost use Rattle.mr_scenario.specs.PhaseLines.{with_item, with_packet, device_word, packet_item};
+ghost use Rattle.mr_scenario.specs.PhaseLines.{trace_item, item_by_word, lane_line, is_smc};
+ghost use Rattle.mr_scenario.specs.PhaseLines.{is_smc_at, daemon_word, who_of, with_script};
+ghost use Rattle.mr_scenario.specs.PhaseLines.{script_line};
 ghost use Rattle.mr_scenario.specs.Forms.{number_in};
 ghost use Rattle.mr_scenario.specs.Kinds.{word_as};
 ghost use Rattle.mr_scenario.specs.declared.stop.Kind.TheVariants as kind;
@@ -22,7 +26,8 @@ use std::alloc::{AllocError, Global};
 
 /// Ends the phase whose lines were read.
 pub fn close_phase(draft: &mut Draft) -> Result<(), AllocError>
-    ensures { OnOk result (draft.new ≡ record draft.old { phases = phases_so_far draft.old; current = None }) }
+    ensures { OnOk result
+        (draft.new ≡ record draft.old { phases = phases_so_far draft.old; current = None }) }
 {
     if let Some(phase) = draft.current.take() {
         draft.phases.0.push(phase)?;
@@ -100,7 +105,8 @@ fn packet_item(
 ) -> Result<(), Stop>
     requires devices { length draft.old.devices ≤ 64 }
     requires phase { is_some draft.old.current ≡ true }
-    ensures { Steps result draft.new (packet_item line draft.old (phase_of draft.old) lane dev.now digits.now) }
+    ensures { Steps result draft.new
+        (packet_item line draft.old (phase_of draft.old) lane dev.now digits.now) }
 {
     let dev = device_word(draft, dev)?;
     let bytes = hex_word(alloc, 4, digits)?;
@@ -128,7 +134,8 @@ fn trace_item(
 ) -> Result<(), Stop>
     requires devices { length draft.old.devices ≤ 64 }
     requires phase { is_some draft.old.current ≡ true }
-    ensures { Steps result draft.new (trace_item line draft.old (phase_of draft.old) lane dev.now file.now) }
+    ensures { Steps result draft.new
+        (trace_item line draft.old (phase_of draft.old) lane dev.now file.now) }
 {
     let dev = device_word(draft, dev)?;
     if !is_file(file) {
@@ -157,7 +164,8 @@ fn item_by_word(
 ) -> Result<(), Stop>
     requires devices { length draft.old.devices ≤ 64 }
     requires phase { is_some draft.old.current ≡ true }
-    ensures { Steps result draft.new (item_by_word line draft.old (phase_of draft.old) lane what.now dev.now given.now) }
+    ensures { Steps result draft.new
+        (item_by_word line draft.old (phase_of draft.old) lane what.now dev.now given.now) }
 {
     if what == b"pkt".as_slice() {
         packet_item(alloc, line, draft, lane, dev, given)
@@ -183,7 +191,8 @@ fn lane_word(draft: &Draft, word: &[u8]) -> Result<u32, Mistake>
 pub fn lane_line(alloc: Global, line: u32, draft: &mut Draft, words: &[u8]) -> Result<(), Stop>
     requires devices { length draft.old.devices ≤ 64 }
     requires phase { is_some draft.old.current ≡ true }
-    ensures { Steps result draft.new (lane_line line draft.old (phase_of draft.old) (words_of words.now)) }
+    ensures { Steps result draft.new
+        (lane_line line draft.old (phase_of draft.old) (words_of words.now)) }
 {
     let (lane, what, dev, given) = four_words(words).ok_or(in_line(Kind::Word))?;
     let lane = lane_word(draft, lane)?;
@@ -247,7 +256,8 @@ fn push_script(draft: &mut Draft, entry: ScriptLine) -> Result<(), AllocError>
 pub fn script_line(alloc: Global, line: u32, draft: &mut Draft, words: &[u8]) -> Result<(), Stop>
     requires daemons { length draft.old.daemons ≤ 8 }
     requires phase { is_some draft.old.current ≡ true }
-    ensures { Steps result draft.new (script_line line draft.old (phase_of draft.old) (words_of words.now)) }
+    ensures { Steps result draft.new
+        (script_line line draft.old (phase_of draft.old) (words_of words.now)) }
 {
     let (number, op, rest) = led_by_two(words).ok_or(in_line(Kind::Word))?;
     let who = who_of(draft, number);

@@ -1,11 +1,14 @@
 //! A scenario is read from its bytes.
 
-ghost use Rattle.std.specs.Prelude.{◌≡◌, ◌≤◌, None, true, is_some, length, map, replicate, slice_index_or, take, IfOk, []};
+ghost use Rattle.std.specs.Prelude.{◌≡◌, ◌≤◌, None, true, is_some, length, map, replicate};
+ghost use Rattle.std.specs.Prelude.{slice_index_or, take, IfOk, []};
 ghost use Rattle.mr_scenario.specs.Answers.{Steps, Gives};
 ghost use Rattle.mr_scenario.specs.Fits.{Fits};
 ghost use Rattle.mr_scenario.specs.Kinds.{found};
 ghost use Rattle.mr_scenario.specs.PhaseLines.{phases_so_far, phase_of};
-ghost use Rattle.mr_scenario.specs.Spelled.{head_line, phase_part, line_in, line_of, draft_from, empty_draft, is_admin_kind, address_only, limits_of, whole, spelled};
+ghost use Rattle.mr_scenario.specs.Spelled.{head_line, phase_part, line_in, line_of, draft_from};
+ghost use Rattle.mr_scenario.specs.Spelled.{empty_draft, is_admin_kind, address_only, limits_of};
+ghost use Rattle.mr_scenario.specs.Spelled.{whole, spelled};
 ghost use Rattle.mr_scenario.specs.declared.stop.TheConstants.{MOST_TEXT};
 ghost use Rattle.mr_words.specs.Words.{lines_of, words_of};
 
@@ -57,7 +60,8 @@ fn phase_part(
     requires devices { length draft.old.devices ≤ 64 }
     requires daemons { length draft.old.daemons ≤ 8 }
     requires phase { is_some draft.old.current ≡ true }
-    ensures { Steps result draft.new (phase_part line draft.old (phase_of draft.old) word.now (words_of words.now)) }
+    ensures { Steps result draft.new
+        (phase_part line draft.old (phase_of draft.old) word.now (words_of words.now)) }
 {
     if word == b"lane".as_slice() {
         lane_line(alloc, line, draft, words)
@@ -80,7 +84,8 @@ fn line_in(
 ) -> Result<(), Stop>
     requires devices { length draft.old.devices ≤ 64 }
     requires daemons { length draft.old.daemons ≤ 8 }
-    ensures { Steps result draft.new (line_in line draft.old draft.old.current word.now (words_of words.now)) }
+    ensures { Steps result draft.new
+        (line_in line draft.old draft.old.current word.now (words_of words.now)) }
 {
     if draft.current.is_some() {
         phase_part(alloc, line, draft, word, words)
@@ -262,8 +267,8 @@ fn whole(alloc: Global, draft: Draft) -> Result<Scenario, ScenarioError>
     })
 }
 
-/// The scenario that bytes spell: `Bad` with the first bad line, what is wrong with it and what was found
-/// there, or `Memory` where it runs out.
+/// The scenario that bytes spell: `Bad` with the first bad line, what is wrong with it and what was
+/// found there, or `Memory` where it runs out.
 pub fn read(alloc: Global, bytes: &[u8]) -> Result<Scenario, ScenarioError>
     ensures spelled { Gives (λ s. s) result (spelled bytes.now) }
     ensures fits { IfOk result Fits }

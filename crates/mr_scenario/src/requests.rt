@@ -1,7 +1,10 @@
-//! Requests of daemons: each by the words behind its own. The number of words is tested first, then who asks.
+//! Requests of daemons: each by the words behind its own. The number of words is tested first, then
+//! who asks.
 
 ghost use Rattle.std.specs.Prelude.{◌≡◌, ◌≤◌, IfOk};
-ghost use Rattle.mr_scenario.specs.Requests.{by_hand, by_smcroute, plain_request, vif_ctl, mfc_ctl, mfc_key, value, count_request, unknown, question, switch_request, entry_request, request_of};
+ghost use Rattle.mr_scenario.specs.Requests.{by_hand, by_smcroute, plain_request, vif_ctl, mfc_ctl};
+ghost use Rattle.mr_scenario.specs.Requests.{mfc_key, value, count_request, unknown, question};
+ghost use Rattle.mr_scenario.specs.Requests.{switch_request, entry_request, request_of};
 ghost use Rattle.mr_words.specs.Words.{words_of};
 
 use crate::counting::{led_by_three, no_words, one_word, three_words, two_words};

@@ -14,8 +14,8 @@ use std::alloc::{AllocError, AllocFailed};
 pub enum Kind {
     /// The first line with words is not `scenario 1`, or there is none.
     Header,
-    /// A byte outside 0x20 to 0x7E and tab, an unknown word, a wrong number of words, a line in the wrong part, or a
-    /// repeated limit or `lanes`.
+    /// A byte outside 0x20 to 0x7E and tab, an unknown word, a wrong number of words, a line in the
+    /// wrong part, or a repeated limit or `lanes`.
     Word,
     /// A number is malformed or out of its range, which is this.
     Number { least: u32, most: u32 },
@@ -145,9 +145,10 @@ pub const MOST_TEXT: usize = 4_096;
 /// Why a scenario was not read.
 #[derive(Debug, Drop)]
 pub enum ScenarioError {
-    /// The first bad line, from 1, what is wrong with it, and the first `MOST_TEXT` bytes of what was found:
-    /// of kind `Header`, `Word` or `Limit` the line, without a carriage return at its end, and of every other
-    /// kind the word at fault. Where no line has words it is line 1 of kind `Header`, with no bytes.
+    /// The first bad line, from 1, what is wrong with it, and the first `MOST_TEXT` bytes of what
+    /// was found: of kind `Header`, `Word` or `Limit` the line, without a carriage return at its
+    /// end, and of every other kind the word at fault. Where no line has words it is line 1 of kind
+    /// `Header`, with no bytes.
     Bad {
         line: u32,
         kind: Kind,

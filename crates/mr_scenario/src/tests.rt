@@ -6,12 +6,26 @@ use std::str;
 use std::test::Fail;
 
 /// The head lines before a row that is a head line, which is line 7.
-const HEAD: &[u8] =
-    b"scenario 1\ndevice eth0 10.0.0.1\ndevice eth1 10.0.1.1\ndaemon admin\ndaemon plain\nsmc a.conf b.conf\n";
+const HEAD: &[u8] = b"\
+scenario 1
+device eth0 10.0.0.1
+device eth1 10.0.1.1
+daemon admin
+daemon plain
+smc a.conf b.conf
+";
 
 /// The lines before a row that is a phase line, which is line 9.
-const PHASE: &[u8] =
-    b"scenario 1\ndevice eth0 10.0.0.1\ndevice eth1 10.0.1.1\ndaemon admin\ndaemon plain\nsmc a.conf b.conf\nlanes 2\nphase\n";
+const PHASE: &[u8] = b"\
+scenario 1
+device eth0 10.0.0.1
+device eth1 10.0.1.1
+daemon admin
+daemon plain
+smc a.conf b.conf
+lanes 2
+phase
+";
 
 /// Head lines, each with the line of its mistake and the mistake's number; 0 where there is none.
 const HEAD_ROWS: &[u8] = b"\
@@ -299,8 +313,8 @@ fn mistake(alloc: Global, text: &[u8]) -> Result<(u32, u8), Fail> {
     }
 }
 
-/// The number of the first row, from 1, whose mistake is another one; 0 where there is none. A row begins with the line
-/// and the number of its mistake, and `|` stands in it for a line feed.
+/// The number of the first row, from 1, whose mistake is another one; 0 where there is none. A row
+/// begins with the line and the number of its mistake, and `|` stands in it for a line feed.
 fn first_wrong(alloc: Global, front: &[u8], rows: &[u8]) -> Result<u32, Fail> {
     let mut rest = rows;
     for number in 1..1000u32 {
@@ -454,15 +468,27 @@ fn limits_shown(alloc: Global, text: &[u8]) -> Result<String, Fail> {
 
 #[test]
 fn limits_and_lanes(rt: HostRuntime) -> Result<(), Fail> {
-    let given =
-        b"scenario 1\nlimit control 7\nlimit entries 8\nlanes 2\nlimit unresolved 9\ndaemon plain\nsmc a.conf\ndevice eth0 10.0.0.1\nphase\nphase\n";
+    let given = b"\
+scenario 1
+limit control 7
+limit entries 8
+lanes 2
+limit unresolved 9
+daemon plain
+smc a.conf
+device eth0 10.0.0.1
+phase
+phase
+";
     assert_eq!(rt;
         limits_shown(rt.alloc(), given)?.as_str(),
-        "2 Limits { entries: 8, unresolved: 9, controls: 7, phases: 2, packets: List([0, 0]), admins: List([false, true]), devices: List([Device { addr: Addr(167772161) }]) }"
+        "2 Limits { entries: 8, unresolved: 9, controls: 7, phases: 2, packets: List([0, 0]), \
+        admins: List([false, true]), devices: List([Device { addr: Addr(167772161) }]) }"
     );
     assert_eq!(rt;
         limits_shown(rt.alloc(), b"scenario 1")?.as_str(),
-        "1 Limits { entries: 1024, unresolved: 10, controls: 65536, phases: 0, packets: List([0]), admins: List([]), devices: List([]) }"
+        "1 Limits { entries: 1024, unresolved: 10, controls: 65536, phases: 0, packets: List([0]), \
+        admins: List([]), devices: List([]) }"
     );
     Ok(())
 }
@@ -483,7 +509,10 @@ fn vifs(rt: HostRuntime) -> Result<(), Fail> {
             b"daemon 1 addvif 3 8 @7\n#\ndaemon 2 addvif 4 0 10.0.0.1"
         )?
         .as_str(),
-        "[Phase { line: 8, items: List([]), script: List([ScriptLine { line: 9, daemon: DaemonNo(1), script: Ask(AddVif(VifCtl { vif: 3, flags: 8, local: 7 })) }, ScriptLine { line: 11, daemon: DaemonNo(2), script: Ask(AddVif(VifCtl { vif: 4, flags: 0, local: 167772161 })) }]) }]"
+        "[Phase { line: 8, items: List([]), script: List([ScriptLine { line: 9, daemon: \
+        DaemonNo(1), script: Ask(AddVif(VifCtl { vif: 3, flags: 8, local: 7 })) }, ScriptLine { \
+        line: 11, daemon: DaemonNo(2), script: Ask(AddVif(VifCtl { vif: 4, flags: 0, local: \
+        167772161 })) }]) }]"
     );
     Ok(())
 }
@@ -496,7 +525,10 @@ fn routes(rt: HostRuntime) -> Result<(), Fail> {
             b"daemon 1 addmfc 10.0.0.9 239.1.1.1 3 31:255 1:7"
         )?
         .as_str(),
-        "[Phase { line: 8, items: List([]), script: List([ScriptLine { line: 9, daemon: DaemonNo(1), script: Ask(AddMfc(MfcCtl { src: Addr(167772169), dst: Addr(4009820417), parent: 3, ttls: [0, 7, 0, 0, 0, 0, 0, 0, 0, 0, 0, 0, 0, 0, 0, 0, 0, 0, 0, 0, 0, 0, 0, 0, 0, 0, 0, 0, 0, 0, 0, 255] })) }]) }]"
+        "[Phase { line: 8, items: List([]), script: List([ScriptLine { line: 9, daemon: \
+        DaemonNo(1), script: Ask(AddMfc(MfcCtl { src: Addr(167772169), dst: Addr(4009820417), \
+        parent: 3, ttls: [0, 7, 0, 0, 0, 0, 0, 0, 0, 0, 0, 0, 0, 0, 0, 0, 0, 0, 0, 0, 0, 0, 0, 0, \
+        0, 0, 0, 0, 0, 0, 0, 255] })) }]) }]"
     );
     Ok(())
 }
@@ -509,7 +541,10 @@ fn other_lines(rt: HostRuntime) -> Result<(), Fail> {
             b"daemon 1 raw 202 00fF\ndaemon 3 smc  add\teth0 # all\ndaemon 3 poll 64"
         )?
         .as_str(),
-        "[Phase { line: 8, items: List([]), script: List([ScriptLine { line: 9, daemon: DaemonNo(1), script: Raw { opt: 202, bytes: List([0, 255]) } }, ScriptLine { line: 10, daemon: DaemonNo(3), script: Words(List([97, 100, 100, 32, 101, 116, 104, 48])) }, ScriptLine { line: 11, daemon: DaemonNo(3), script: Poll(64) }]) }]"
+        "[Phase { line: 8, items: List([]), script: List([ScriptLine { line: 9, daemon: \
+        DaemonNo(1), script: Raw { opt: 202, bytes: List([0, 255]) } }, ScriptLine { line: 10, \
+        daemon: DaemonNo(3), script: Words(List([97, 100, 100, 32, 101, 116, 104, 48])) }, \
+        ScriptLine { line: 11, daemon: DaemonNo(3), script: Poll(64) }]) }]"
     );
     Ok(())
 }
@@ -522,7 +557,10 @@ fn items(rt: HostRuntime) -> Result<(), Fail> {
             b"lane 2 pkt eth1 09aF\nphase\nlane 1 trace eth0 in"
         )?
         .as_str(),
-        "[Phase { line: 8, items: List([Item { line: 9, lane: LaneNo(2), dev: 2, given: Bytes(List([9, 175])) }]), script: List([]) }, Phase { line: 10, items: List([Item { line: 11, lane: LaneNo(1), dev: 1, given: Trace(BoxedName(FileName(\"in\"))) }]), script: List([]) }]"
+        "[Phase { line: 8, items: List([Item { line: 9, lane: LaneNo(2), dev: 2, given: \
+        Bytes(List([9, 175])) }]), script: List([]) }, Phase { line: 10, items: List([Item { line: \
+        11, lane: LaneNo(1), dev: 1, given: Trace(BoxedName(FileName(\"in\"))) }]), script: \
+        List([]) }]"
     );
     Ok(())
 }

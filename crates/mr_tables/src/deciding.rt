@@ -1,11 +1,14 @@
 //! What the vifs and the entries say of a packet (ipmr.c, `ip_mr_input` and `ip_mr_forward`).
 
-ghost use Rattle.std.specs.Prelude.{◌≡◌, ◌≢◌, ℕ, ◌<◌, ◌==◌, ◌||◌, List, not, nat_lt, if◌then◌else◌, slice_index_or};
+ghost use Rattle.std.specs.Prelude.{◌≡◌, ◌≢◌, ℕ, ◌<◌, ◌==◌, ◌||◌, List, not, nat_lt, if◌then◌else◌};
+ghost use Rattle.std.specs.Prelude.{slice_index_or};
 ghost use Rattle.mr_base.specs.declared.route.Route.{Route};
 ghost use Rattle.mr_model.specs.Found.{any_address, or_else, star_in, proxy_in, wildcard_in};
 ghost use Rattle.mr_model.specs.RouteList.{ttl_of, is_entry};
 ghost use Rattle.mr_model.specs.VifList.{vif_on};
-ghost use Rattle.mr_model.specs.Verdict.{is_in, comes_by_parent, passes_proxied, sends_on, input_of, has_register, judge_in, judge_or_miss, verdict_in};
+ghost use Rattle.mr_model.specs.Verdict.{is_in, comes_by_parent, passes_proxied, sends_on};
+ghost use Rattle.mr_model.specs.Verdict.{input_of, has_register, judge_in, judge_or_miss};
+ghost use Rattle.mr_model.specs.Verdict.{verdict_in};
 ghost use Rattle.mr_model.specs.declared.verdict.Verdict.TheVariants.{Forward, Register, Wrong};
 
 use crate::entries::NO_THRESHOLD;

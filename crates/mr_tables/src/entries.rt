@@ -5,7 +5,8 @@ ghost use Rattle.std.specs.Prelude.{◌≡◌, ◌<◌, not, nat_le, length, fin
 ghost use Rattle.std.specs.List.{AllByRecursion};
 ghost use Rattle.mr_base.specs.declared.errno.Errno.TheVariants.{Invalid, NoBuffers};
 ghost use Rattle.mr_model.specs.Refusing.{refuse};
-ghost use Rattle.mr_model.specs.RouteList.{is_named, threshold, thresholds_from, is_group, add_route_error, del_route_error};
+ghost use Rattle.mr_model.specs.RouteList.{is_named, threshold, thresholds_from, is_group};
+ghost use Rattle.mr_model.specs.RouteList.{add_route_error, del_route_error};
 ghost use Rattle.mr_model.specs.Granting.{route_change, number_found};
 ghost use Rattle.mr_model.specs.declared.change.What.TheVariants as what;
 

@@ -1,6 +1,7 @@
 //! Laws that tie the tables as an object to those of a history.
 
-ghost use Rattle.mr_tables.specs.Laws.{GoodCallApplies, EntryApplies, NumberIsAbove, ChangesApply, FirstChangesApply, LegalChangesFit};
+ghost use Rattle.mr_tables.specs.Laws.{GoodCallApplies, EntryApplies, NumberIsAbove, ChangesApply};
+ghost use Rattle.mr_tables.specs.Laws.{FirstChangesApply, LegalChangesFit};
 
 /// Applying what a good call changes takes the tables of a state to those of the state after that
 /// call.

@@ -1,6 +1,8 @@
-//! Laws of the definitions in `specs/`: a history has one text, and each text is read as what it is the text of.
+//! Laws of the definitions in `specs/`: a history has one text, and each text is read as what it is
+//! the text of.
 
-ghost use Rattle.mr_text.specs.Laws.{FirstLines, LinesBegin, NoneBegins, OneText, ReadIsText, TextIsRead};
+ghost use Rattle.mr_text.specs.Laws.{FirstLines, LinesBegin, NoneBegins, OneText, ReadIsText};
+ghost use Rattle.mr_text.specs.Laws.{TextIsRead};
 
 /// What is read fits the grammar, and its text is just what was read.
 pub fn read_is_text()
@@ -22,7 +24,8 @@ pub fn none_begins()
     ensures { NoneBegins }
 {}
 
-/// The lines before the first that may not come begin such a text, and they are what the bytes begin with.
+/// The lines before the first that may not come begin such a text, and they are what the bytes
+/// begin with.
 pub fn lines_begin()
     ensures text { LinesBegin }
     ensures bytes { FirstLines }

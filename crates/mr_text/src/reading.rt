@@ -36,7 +36,8 @@ fn first_state(alloc: Global) -> State
     }
 }
 
-/// Reads records, as many as are due, as long as the next lines are some. They are the most of all lines.
+/// Reads records, as many as are due, as long as the next lines are some. They are the most of all
+/// lines.
 #[inline(never)]
 fn take_records<'a>(
     kept: &mut Kept,
@@ -45,7 +46,9 @@ fn take_records<'a>(
     left: &mut u64,
     text: &'a [u8],
 ) -> Result<&'a [u8], AllocError>
-    ensures { IfOk result (λ rest. (s : State) (lane : LaneNo) → GoesOn line.old (settling s lane records.old.items left.old) text.now line.new (settling s lane records.new.items left.new) rest.now) }
+    ensures { IfOk result (λ rest. (s : State) (lane : LaneNo)
+        → GoesOn line.old (settling s lane records.old.items left.old) text.now
+        line.new (settling s lane records.new.items left.new) rest.now) }
 {
     // a legal settle has at most 64
     records.reserve((*left).min(64) as usize)?;
@@ -124,11 +127,12 @@ fn whole(line: u32, state: State, bytes: &[u8]) -> Result<HistoryText, TextError
 
 /// Reads the text of a history: its parts, whose text is just these bytes.
 ///
-/// Errors: `Line` with the first line outside the grammar, or one more than the number of whole lines where
-/// the text ends before `end`, or where its last line has no line feed; `Memory`.
+/// Errors: `Line` with the first line outside the grammar, or one more than the number of whole
+/// lines where the text ends before `end`, or where its last line has no line feed; `Memory`.
 pub fn read_history(alloc: Global, bytes: &[u8]) -> Result<HistoryText, TextError>
     ensures exact { Gives result (walked bytes.now) }
-    ensures found { IfOk result (λ t. PartsFit t.skips t.entries t.tail × (bytes.now ≡ text t.skips t.entries t.tail) × (t.lines ≡ first_lines t.skips t.entries)) }
+    ensures found { IfOk result (λ t. PartsFit t.skips t.entries t.tail
+        × (bytes.now ≡ text t.skips t.entries t.tail) × (t.lines ≡ first_lines t.skips t.entries)) }
 {
     let mut state = first_state(alloc);
     let mut line = 1u32;

@@ -1,4 +1,5 @@
-//! The first line of a settle. A history has one for each 64 records or less, so it is read with no look at the other forms of lines.
+//! The first line of a settle. A history has one for each 64 records or less, so it is read with no
+//! look at the other forms of lines.
 
 ghost use Rattle.std.specs.Prelude.{◌≡◌, ◌++◌, ◌∷◌, IfSome, codes};
 ghost use Rattle.mr_lines.specs.Fit.{LineFits};
@@ -35,8 +36,8 @@ fn past_word(text: &[u8]) -> Option<&[u8]>
     }
 }
 
-/// A settle's line in front of a text: its number, its lane, how many records follow, and the bytes behind it. `None` where no such
-/// line is first, or a number of it has more than nine digits.
+/// A settle's line in front of a text: its number, its lane, how many records follow, and the bytes
+/// behind it. `None` where no such line is first, or a number of it has more than nine digits.
 #[inline(always)]
 fn settle_line(text: &[u8]) -> Option<(u32, LaneNo, u32, &[u8])>
     ensures line { IfSome result (λ x. text.now ≡ line_text (said.Settle x.0 x.1 x.2) ++ x.3.now) }

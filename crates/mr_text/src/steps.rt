@@ -3,7 +3,9 @@
 ghost use Rattle.std.specs.Prelude.{◌≡◌, [], IfOk, option_and_then};
 ghost use Rattle.mr_lines.specs.declared.line.Line.TheVariants as said;
 ghost use Rattle.mr_text.specs.Answers.{Steps};
-ghost use Rattle.mr_text.specs.Walk.{added, begun, closed, has_no_tail, is_inside, is_next, opened, recorded, released, skipped, step, with_end, with_fate, with_route, with_vif};
+ghost use Rattle.mr_text.specs.Walk.{added, begun, closed, has_no_tail, is_inside, is_next, opened};
+ghost use Rattle.mr_text.specs.Walk.{recorded, released, skipped, step, with_end, with_fate};
+ghost use Rattle.mr_text.specs.Walk.{with_route, with_vif};
 
 use crate::history_text::TextError;
 use crate::orders::{route_follows, skip_follows, vif_follows};
@@ -211,7 +213,8 @@ fn begin(line: u32, state: &mut State) -> Result<(), TextError>
     Ok(())
 }
 
-/// An empty list with room for the records of a settle. It has 64 of them at most, unless the text is no router's.
+/// An empty list with room for the records of a settle. It has 64 of them at most, unless the text
+/// is no router's.
 fn with_room(alloc: Global, count: u64) -> Result<List<FastRecord>, AllocError>
     ensures { IfOk result (λ l. l ≡ []) }
 {
@@ -228,7 +231,8 @@ fn call(
     request: Request,
     reply: Reply,
 ) -> Result<(), TextError>
-    ensures { Steps result line state.new (step line state.old (said.Call number daemon request reply)) }
+    ensures { Steps result line state.new
+        (step line state.old (said.Call number daemon request reply)) }
 {
     let current = Current::Call {
         daemon,
@@ -249,7 +253,8 @@ fn slow(
     look: u32,
     outcome: Outcome,
 ) -> Result<(), TextError>
-    ensures { Steps result line state.new (step line state.old (said.Slow number lane index look outcome)) }
+    ensures { Steps result line state.new
+        (step line state.old (said.Slow number lane index look outcome)) }
 {
     let entry = Entry::Slow {
         lane,

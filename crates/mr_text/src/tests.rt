@@ -5,8 +5,9 @@ use mr_words::{next_word, number_of, past};
 use std::alloc::Global;
 use std::test::Fail;
 
-/// Texts that differ from one of the grammar in one place, each behind the number of the line that is outside. It is the
-/// line behind the last where `end` is missing, and a last line without its line feed is outside. `|` stands for a line feed.
+/// Texts that differ from one of the grammar in one place, each behind the number of the line that
+/// is outside. It is the line behind the last where `end` is missing, and a last line without its
+/// line feed is outside. `|` stands for a line feed.
 const NEAR_MISSES: &[u8] = b"\
 1 
 1 |
@@ -293,7 +294,8 @@ fn is_as_told(alloc: Global, row: &[u8]) -> Result<bool, Fail> {
     Ok(number_of(line, 99) == Some(refused(alloc, text.as_slice())?))
 }
 
-/// The number of the first row, from 1, whose text is refused at another line; 0 where there is none.
+/// The number of the first row, from 1, whose text is refused at another line; 0 where there is
+/// none.
 fn first_wrong(alloc: Global, rows: &[u8]) -> Result<u32, Fail> {
     let mut number = 1u32;
     for row in rows.split(|b| *b == b'\n') {

@@ -25,7 +25,9 @@ const REQUESTS: &str = "history 1
 5 call 1 addvif 1 0 0.0.0.1 = ok
 6 call 1 delvif 65535 = ok
 7 call 1 addmfc 0.0.0.0 255.255.255.255 65535 0:1 31:255 = ok
-8 call 1 addmfc 10.0.0.9 239.1.1.1 0 0:255 1:254 2:253 3:252 4:251 5:250 6:249 7:248 8:247 9:246 10:245 11:244 12:243 13:242 14:241 15:240 16:239 17:238 18:237 19:236 20:235 21:234 22:233 23:232 24:231 25:230 26:229 27:228 28:227 29:226 30:225 31:224 = ok
+8 call 1 addmfc 10.0.0.9 239.1.1.1 0 0:255 1:254 2:253 3:252 4:251 5:250 6:249 7:248 8:247 9:246 \
+    10:245 11:244 12:243 13:242 14:241 15:240 16:239 17:238 18:237 19:236 20:235 21:234 22:233 \
+    23:232 24:231 25:230 26:229 27:228 28:227 29:226 30:225 31:224 = ok
 9 call 1 addmfc 10.0.0.9 239.1.1.1 0 = ok
 10 call 1 delmfc 1.20.255.0 239.1.1.1 65535 = ok
 11 call 1 addproxy 0.0.0.0 0.0.0.0 3 0:255 = ok
@@ -66,7 +68,8 @@ end
 /// Each outcome, under the lock.
 const OUTCOMES: &str = "history 1
 1 slow 255 0 4294967295 fwd 0 - -
-2 slow 255 1 4294967295 fwd 4294967295 255 0,1,2,3,4,5,6,7,8,9,10,11,12,13,14,15,16,17,18,19,20,21,22,23,24,25,26,27,28,29,30,31
+2 slow 255 1 4294967295 fwd 4294967295 255 \
+    0,1,2,3,4,5,6,7,8,9,10,11,12,13,14,15,16,17,18,19,20,21,22,23,24,25,26,27,28,29,30,31
 3 slow 255 2 4294967295 reg 4 0 1 told
 4 slow 255 3 4294967295 reg 4 - - lost
 5 slow 255 4 4294967295 wrong 4294967295 - quiet
@@ -86,7 +89,8 @@ end
 const OUTCOMES_OF_RELEASED: &str = "history 1
 1 call 1 init = ok
 - 4294967295 1 fwd 0 - -
-- 4294967295 2 fwd 4294967295 255 0,1,2,3,4,5,6,7,8,9,10,11,12,13,14,15,16,17,18,19,20,21,22,23,24,25,26,27,28,29,30,31
+- 4294967295 2 fwd 4294967295 255 \
+    0,1,2,3,4,5,6,7,8,9,10,11,12,13,14,15,16,17,18,19,20,21,22,23,24,25,26,27,28,29,30,31
 - 4294967295 3 reg 4 0 1 told
 - 4294967295 4 reg 4 - - lost
 2 call 1 init = ok
@@ -108,7 +112,8 @@ end
 const RECORDS: &str = "history 1
 1 settle 1 0
 2 settle 4294967295 3
-- 4294967295 4294967295 4294967295 255 0,1,2,3,4,5,6,7,8,9,10,11,12,13,14,15,16,17,18,19,20,21,22,23,24,25,26,27,28,29,30,31
+- 4294967295 4294967295 4294967295 255 \
+    0,1,2,3,4,5,6,7,8,9,10,11,12,13,14,15,16,17,18,19,20,21,22,23,24,25,26,27,28,29,30,31
 - 0 0 0 - -
 - 1 10 100 9 0,31
 3 settle 0 1
@@ -180,11 +185,19 @@ fn forms_are_written_back(rt: HostRuntime) -> Result<(), Fail> {
     Ok(())
 }
 
-/// The text of a run in which 64 reports fill the queue of a daemon, a 65th is lost, and two packets find no room.
+/// The text of a run in which 64 reports fill the queue of a daemon, a 65th is lost, and two
+/// packets find no room.
 fn many_reports(alloc: Global) -> Result<Vec<u8>, AllocError> {
     let mut text = Vec::from_slice(
         alloc,
-        b"history 1\n1 call 1 init = ok\n2 call 1 addvif 0 8 @1 = ok\n3 call 1 addvif 1 4 0.0.0.0 = ok\n4 call 1 addmfc 10.0.0.9 239.1.1.1 0 1:1 = ok\n5 phase\n",
+        b"\
+history 1
+1 call 1 init = ok
+2 call 1 addvif 0 8 @1 = ok
+3 call 1 addvif 1 4 0.0.0.0 = ok
+4 call 1 addmfc 10.0.0.9 239.1.1.1 0 1:1 = ok
+5 phase
+",
     )?;
     for index in 1..65u32 {
         let line = format!(in alloc;
@@ -195,7 +208,16 @@ fn many_reports(alloc: Global) -> Result<Vec<u8>, AllocError> {
         text.extend_from_slice(line.as_bytes())?;
     }
     text.extend_from_slice(
-        b"70 slow 1 65 69 reg 4 0 1 lost\n71 slow 1 66 70 drop upcall\n72 slow 1 67 71 drop upcall\n73 phase\nroute 4 10.0.0.9 239.1.1.1 0 65 1820 0\nvif 0 eth0 65 0 1820 0\nvif 1 pimreg 0 65 0 1820\nend\n",
+        b"\
+70 slow 1 65 69 reg 4 0 1 lost
+71 slow 1 66 70 drop upcall
+72 slow 1 67 71 drop upcall
+73 phase
+route 4 10.0.0.9 239.1.1.1 0 65 1820 0
+vif 0 eth0 65 0 1820 0
+vif 1 pimreg 0 65 0 1820
+end
+",
     )?;
     Ok(text)
 }

@@ -16,7 +16,8 @@ use std::alloc::{AllocError, Global};
 
 /// The lines of the items that are no packets.
 pub fn write_skips(out: &mut Vec<u8>, skips: &[Skip]) -> Result<(), AllocError>
-    ensures { OnOk result (out.new.items ≡ out.old.items ++ flat_map line_text (map line.Skip skips.now)) }
+    ensures { OnOk result
+        (out.new.items ≡ out.old.items ++ flat_map line_text (map line.Skip skips.now)) }
 {
     for skip in skips {
         write_skip(out, skip)?;
@@ -26,7 +27,8 @@ pub fn write_skips(out: &mut Vec<u8>, skips: &[Skip]) -> Result<(), AllocError>
 
 /// The lines of the packets that a call released.
 fn write_released_lines(out: &mut Vec<u8>, packets: &[ReleasedId]) -> Result<(), AllocError>
-    ensures { OnOk result (out.new.items ≡ out.old.items ++ flat_map line_text (map line.Released packets.now)) }
+    ensures { OnOk result
+        (out.new.items ≡ out.old.items ++ flat_map line_text (map line.Released packets.now)) }
 {
     for packet in packets {
         write_released(out, packet)?;
@@ -40,7 +42,8 @@ fn write_records(
     ways: &mut Ways,
     packets: &[FastRecord],
 ) -> Result<(), AllocError>
-    ensures { OnOk result (out.new.items ≡ out.old.items ++ flat_map line_text (map line.Record packets.now)) }
+    ensures { OnOk result
+        (out.new.items ≡ out.old.items ++ flat_map line_text (map line.Record packets.now)) }
 {
     for packet in packets {
         write_record(out, ways, packet)?;
@@ -57,7 +60,8 @@ pub fn write_call_lines(
     reply: &Reply,
     packets: &[ReleasedId],
 ) -> Result<(), AllocError>
-    ensures { OnOk result (out.new.items ≡ out.old.items ++ flat_map line_text (line.Call number daemon request.now reply.now ∷ map line.Released packets.now)) }
+    ensures { OnOk result (out.new.items ≡ out.old.items ++ flat_map line_text
+        (line.Call number daemon request.now reply.now ∷ map line.Released packets.now)) }
 {
     write_call(out, number, daemon, request, reply)?;
     write_released_lines(out, packets)?;
@@ -72,7 +76,8 @@ fn write_settle_lines(
     lane: LaneNo,
     packets: &[FastRecord],
 ) -> Result<(), AllocError>
-    ensures { OnOk result (out.new.items ≡ out.old.items ++ flat_map line_text (line.Settle number lane (length packets.now) ∷ map line.Record packets.now)) }
+    ensures { OnOk result (out.new.items ≡ out.old.items ++ flat_map line_text
+        (line.Settle number lane (length packets.now) ∷ map line.Record packets.now)) }
 {
     write_settle(out, number, lane, packets.len() as u64)?;
     write_records(out, ways, packets)?;
@@ -86,7 +91,8 @@ pub fn write_entry(
     number: u64,
     entry: &Entry,
 ) -> Result<(), AllocError>
-    ensures { OnOk result (out.new.items ≡ out.old.items ++ flat_map line_text (entry_lines number entry.now)) }
+    ensures { OnOk result
+        (out.new.items ≡ out.old.items ++ flat_map line_text (entry_lines number entry.now)) }
 {
     match entry {
         Entry::Call {
@@ -113,7 +119,8 @@ pub fn write_entry(
 
 /// The lines of all entries.
 fn write_entries(out: &mut Vec<u8>, entries: &[Entry]) -> Result<(), AllocError>
-    ensures { OnOk result (out.new.items ≡ out.old.items ++ flat_map line_text (entries_lines 1 entries.now)) }
+    ensures { OnOk result
+        (out.new.items ≡ out.old.items ++ flat_map line_text (entries_lines 1 entries.now)) }
 {
     let mut number = 1u64;
     let mut ways = Ways::new();
@@ -126,7 +133,8 @@ fn write_entries(out: &mut Vec<u8>, entries: &[Entry]) -> Result<(), AllocError>
 
 /// The lines of the live entries.
 fn write_routes(out: &mut Vec<u8>, routes: &[RouteLine]) -> Result<(), AllocError>
-    ensures { OnOk result (out.new.items ≡ out.old.items ++ flat_map line_text (map line.Route routes.now)) }
+    ensures { OnOk result
+        (out.new.items ≡ out.old.items ++ flat_map line_text (map line.Route routes.now)) }
 {
     for route in routes {
         write_route(out, route)?;
@@ -136,7 +144,8 @@ fn write_routes(out: &mut Vec<u8>, routes: &[RouteLine]) -> Result<(), AllocErro
 
 /// The lines of the live vifs.
 fn write_vifs(out: &mut Vec<u8>, vifs: &[VifLine]) -> Result<(), AllocError>
-    ensures { OnOk result (out.new.items ≡ out.old.items ++ flat_map line_text (map line.Vif vifs.now)) }
+    ensures { OnOk result
+        (out.new.items ≡ out.old.items ++ flat_map line_text (map line.Vif vifs.now)) }
 {
     for vif in vifs {
         write_vif(out, vif)?;
@@ -146,7 +155,8 @@ fn write_vifs(out: &mut Vec<u8>, vifs: &[VifLine]) -> Result<(), AllocError>
 
 /// The lines of the fates.
 fn write_fates(out: &mut Vec<u8>, fates: &[FateLine]) -> Result<(), AllocError>
-    ensures { OnOk result (out.new.items ≡ out.old.items ++ flat_map line_text (map line.Fate fates.now)) }
+    ensures { OnOk result
+        (out.new.items ≡ out.old.items ++ flat_map line_text (map line.Fate fates.now)) }
 {
     for fate in fates {
         write_fate(out, fate)?;
@@ -156,7 +166,8 @@ fn write_fates(out: &mut Vec<u8>, fates: &[FateLine]) -> Result<(), AllocError>
 
 /// The lines of the tail.
 pub fn write_tail(out: &mut Vec<u8>, tail: &Tail) -> Result<(), AllocError>
-    ensures { OnOk result (out.new.items ≡ out.old.items ++ flat_map line_text (tail_lines tail.now)) }
+    ensures { OnOk result
+        (out.new.items ≡ out.old.items ++ flat_map line_text (tail_lines tail.now)) }
 {
     write_routes(out, tail.routes.0.as_slice())?;
     write_vifs(out, tail.vifs.0.as_slice())?;
@@ -164,7 +175,8 @@ pub fn write_tail(out: &mut Vec<u8>, tail: &Tail) -> Result<(), AllocError>
     Ok(())
 }
 
-/// About how many bytes the lines of entries take. It is a guess: a text may come out longer or shorter.
+/// About how many bytes the lines of entries take. It is a guess: a text may come out longer or
+/// shorter.
 fn entries_room(entries: &[Entry]) -> usize {
     let mut room = 0usize;
     for entry in entries {
@@ -223,8 +235,8 @@ fn history_bytes(
     Ok(out)
 }
 
-/// The text of a history: its first line, the skips, the entries with their numbers from 1, the tail and its last line.
-/// Without memory for it the answer is `Memory`.
+/// The text of a history: its first line, the skips, the entries with their numbers from 1, the
+/// tail and its last line. Without memory for it the answer is `Memory`.
 pub fn write_history(
     alloc: Global,
     skips: &[Skip],

@@ -1,6 +1,7 @@
 //! Reports as bytes.
 ghost use Rattle.std.specs.Prelude.{◌≡◌, ◌≤◌, ◌++◌, length, IfOk, OnOk};
-ghost use Rattle.mr_upcall.specs.Reports.{type_of, message_fields, message_bytes, short_report, whole_report, report_bytes};
+ghost use Rattle.mr_upcall.specs.Reports.{type_of, message_fields, message_bytes, short_report};
+ghost use Rattle.mr_upcall.specs.Reports.{whole_report, report_bytes};
 
 use crate::upcall::Upcall;
 use mr_base::{Head, Memory};

@@ -1,6 +1,7 @@
 //! What is kept beside a list of vifs.
 
-ghost use Rattle.std.specs.Prelude.{◌≡◌, ℕ, ◌<◌, ◌++◌, false, if◌then◌else◌, Some, List, [], ◌∷◌, IsTrue, IsNone};
+ghost use Rattle.std.specs.Prelude.{◌≡◌, ℕ, ◌<◌, ◌++◌, false, if◌then◌else◌, Some, List, [], ◌∷◌};
+ghost use Rattle.std.specs.Prelude.{IsTrue, IsNone};
 ghost use Rattle.mr_base.specs.declared.vif_record.VifRecord.{VifRecord};
 ghost use Rattle.mr_model.specs.VifList.{has_vif, higher, register_vif};
 ghost use Rattle.mr_vif.specs.Keeping.{AreHighest, AreAnswers};
@@ -13,7 +14,8 @@ pub const VIFS: usize = 32;
 /// The device numbers with a place of their own: 0 for the register vif, and 64 devices.
 pub const DEVICES: usize = 65;
 
-/// The answers of a list of vifs, each in its place; those that every packet asks for stand together.
+/// The answers of a list of vifs, each in its place; those that every packet asks for stand
+/// together.
 #[derive(Debug, Drop)]
 pub struct Answers {
     /// A bit for each vif.

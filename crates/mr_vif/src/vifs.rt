@@ -1,9 +1,11 @@
 //! The vifs as an object.
 
-ghost use Rattle.std.specs.Prelude.{◌≡◌, ℕ, ◌<◌, ◌≤◌, ◌++◌, if◌then◌else◌, true, false, List, [], ◌∷◌, IsTrue, IsNone, IfSome};
+ghost use Rattle.std.specs.Prelude.{◌≡◌, ℕ, ◌<◌, ◌≤◌, ◌++◌, if◌then◌else◌, true, false, List, []};
+ghost use Rattle.std.specs.Prelude.{◌∷◌, IsTrue, IsNone, IfSome};
 ghost use Rattle.mr_base.specs.declared.vif_record.VifRecord.{VifRecord};
 ghost use Rattle.mr_model.specs.Verdict.{is_in};
-ghost use Rattle.mr_model.specs.VifList.{vif_at, has_vif, register_vif, vif_on, max_vif, without_vif, vifs_left};
+ghost use Rattle.mr_model.specs.VifList.{vif_at, has_vif, register_vif, vif_on, max_vif};
+ghost use Rattle.mr_model.specs.VifList.{without_vif, vifs_left};
 ghost use Rattle.mr_vif.specs.Masks.{mask_of, vifs_below};
 ghost use Rattle.mr_vif.specs.Rules.{AreVifs};
 
@@ -163,8 +165,8 @@ impl Vifs {
         *self = left;
     }
 
-    /// Removes the static vifs, where `fixed`, and the others, where `loose`; the rest stay in their
-    /// order (ipmr.c, mroute_clean_tables).
+    /// Removes the static vifs, where `fixed`, and the others, where `loose`; the rest stay in
+    /// their order (ipmr.c, mroute_clean_tables).
     pub fn flush(&mut self, loose: bool, fixed: bool)
         ensures { self.new ≡ vifs_left loose fixed self.old }
     {

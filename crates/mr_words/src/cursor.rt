@@ -1,6 +1,7 @@
 //! Lines and words, cut from the front of a slice.
 
-ghost use Rattle.std.specs.Prelude.{◌≡◌, ◌≢◌, ◌+◌, ◌<◌, ◌≤◌, ℕ, true, false, [], ◌∷◌, length, drop, slice_index, MatchOption};
+ghost use Rattle.std.specs.Prelude.{◌≡◌, ◌≢◌, ◌+◌, ◌<◌, ◌≤◌, ℕ, true, false, [], ◌∷◌, length, drop};
+ghost use Rattle.std.specs.Prelude.{slice_index, MatchOption};
 ghost use Rattle.mr_words.specs.Words.{is_blank, lines_of, without_return, words_of};
 
 use memchr::{memchr, memchr2};
@@ -85,7 +86,8 @@ fn skip_blanks(bytes: &[u8]) -> &[u8]
 
 /// The first word of a line, and the bytes behind it; none where no word is left before a comment.
 pub fn next_word(bytes: &[u8]) -> Option<(&[u8], &[u8])>
-    ensures { MatchOption result (words_of bytes.now ≡ []) (λ x. words_of bytes.now ≡ x.0.now ∷ words_of x.1.now) }
+    ensures { MatchOption result (words_of bytes.now ≡ []) (λ x.
+        words_of bytes.now ≡ x.0.now ∷ words_of x.1.now) }
 {
     first_word(skip_blanks(bytes))
 }
@@ -93,7 +95,8 @@ pub fn next_word(bytes: &[u8]) -> Option<(&[u8], &[u8])>
 /// The word with which bytes begin that do not begin with a blank.
 fn first_word(bytes: &[u8]) -> Option<(&[u8], &[u8])>
     requires { 0 < length bytes.now → is_blank (slice_index bytes.now 0) ≡ false }
-    ensures { MatchOption result (words_of bytes.now ≡ []) (λ x. words_of bytes.now ≡ x.0.now ∷ words_of x.1.now) }
+    ensures { MatchOption result (words_of bytes.now ≡ []) (λ x.
+        words_of bytes.now ≡ x.0.now ∷ words_of x.1.now) }
 {
     let end = word_end(bytes);
     if end == 0 || bytes[0] == b'#' {

@@ -1,5 +1,5 @@
-//! Texts cut into lines and words, and what single words spell: numbers, addresses, items `V:T`, names of devices
-//! and files.
+//! Texts cut into lines and words, and what single words spell: numbers, addresses, items `V:T`,
+//! names of devices and files.
 #![tactic(auto)]
 
 mod cursor;

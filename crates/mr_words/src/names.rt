@@ -2,7 +2,8 @@
 
 ghost use Rattle.std.specs.Prelude.{◌≡◌, ◌≤◌, ◌==◌, true, length};
 ghost use Rattle.std.specs.List.{list_all, list_any};
-ghost use Rattle.mr_words.specs.Names.{is_plain, is_clean, is_letter, is_name_byte, begins_name, is_device_name, is_file};
+ghost use Rattle.mr_words.specs.Names.{is_plain, is_clean, is_letter, is_name_byte, begins_name};
+ghost use Rattle.mr_words.specs.Names.{is_device_name, is_file};
 
 use crate::numbers::is_digit;
 use mr_base::FileName;
@@ -59,8 +60,8 @@ fn has_slash(word: &[u8]) -> bool
     word.iter().any(|b| *b == b'/')
 }
 
-/// Whether a word may name a file of the folder: 1 to 255 plain bytes without `/`, neither `.` nor `..`, which do not
-/// begin with `out-`.
+/// Whether a word may name a file of the folder: 1 to 255 plain bytes without `/`, neither `.` nor
+/// `..`, which do not begin with `out-`.
 pub fn is_file(word: &[u8]) -> bool
     ensures { result ≡ is_file word.now }
 {

@@ -3,7 +3,8 @@
 ghost use Rattle.std.specs.Prelude.{◌≡◌, ◌≤◌, None, IfSome, MatchOption, SomeIff, [], ◌∷◌, fold};
 ghost use Rattle.std.specs.List.{list_all};
 ghost use Rattle.mr_words.specs.Parts.{parts_of};
-ghost use Rattle.mr_words.specs.Numbers.{is_digit, leads_well, is_numeral, digit_on, number_of, four_parts, address_of};
+ghost use Rattle.mr_words.specs.Numbers.{is_digit, leads_well, is_numeral, digit_on, number_of};
+ghost use Rattle.mr_words.specs.Numbers.{four_parts, address_of};
 
 use crate::parts::split_part;
 
@@ -72,7 +73,8 @@ pub fn number_of(word: &[u8], most: u32) -> Option<u32>
 
 /// The four parts of a word that three dots part.
 fn four_parts(word: &[u8]) -> Option<(&[u8], &[u8], &[u8], &[u8])>
-    ensures { MatchOption result (four_parts (parts_of 46 word.now) ≡ None) (λ x. parts_of 46 word.now ≡ x.0.now ∷ x.1.now ∷ x.2.now ∷ x.3.now ∷ []) }
+    ensures { MatchOption result (four_parts (parts_of 46 word.now) ≡ None) (λ x.
+        parts_of 46 word.now ≡ x.0.now ∷ x.1.now ∷ x.2.now ∷ x.3.now ∷ []) }
 {
     let (a, rest) = split_part(word, b'.');
     let (b, rest) = split_part(rest?, b'.');

@@ -5,7 +5,8 @@ ghost use Rattle.mr_words.specs.Names.{is_clean};
 ghost use Rattle.mr_words.specs.Parts.{parts_left};
 ghost use Rattle.mr_words.specs.Words.{words_of};
 ghost use Rattle.smc_conf.specs.Answers.{Gives};
-ghost use Rattle.smc_conf.specs.Forms.{first_of, keyword, interface_word, prefix_of, length_in, source_word, group_address, group_word, threshold_word};
+ghost use Rattle.smc_conf.specs.Forms.{first_of, keyword, interface_word, prefix_of, length_in};
+ghost use Rattle.smc_conf.specs.Forms.{source_word, group_address, group_word, threshold_word};
 ghost use Rattle.smc_conf.specs.Kinds.{bad};
 
 use crate::conf::Prefix;

@@ -3,7 +3,8 @@
 ghost use Rattle.std.specs.Prelude.{◌≡◌};
 ghost use Rattle.mr_words.specs.Words.{words_of};
 ghost use Rattle.smc_conf.specs.Answers.{Gives, Steps};
-ghost use Rattle.smc_conf.specs.Lines.{is_named, enabled_word, nothing_behind, threshold_in, phyint_line};
+ghost use Rattle.smc_conf.specs.Lines.{is_named, enabled_word, nothing_behind, threshold_in};
+ghost use Rattle.smc_conf.specs.Lines.{phyint_line};
 
 use crate::conf::Phyint;
 use crate::draft::Draft;

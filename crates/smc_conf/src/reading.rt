@@ -72,8 +72,8 @@ fn bad_line(alloc: Global, line: u32, kind: Kind, text: &[u8]) -> ConfError
 ///
 /// # Errors
 ///
-/// `Bad` with the first bad line, the first thing that is wrong with it, word by word from the left,
-/// and the line itself; `Memory` where there is none.
+/// `Bad` with the first bad line, the first thing that is wrong with it, word by word from the
+/// left, and the line itself; `Memory` where there is none.
 pub fn read(alloc: Global, bytes: &[u8]) -> Result<Conf, ConfError>
     ensures spelled { Gets result (spelled bytes.now) }
     ensures fits { IfOk result Fits }

@@ -75,8 +75,8 @@ pub const MOST_TEXT: usize = 4_096;
 /// Why a configuration was not read.
 #[derive(Debug, Drop)]
 pub enum ConfError {
-    /// The first bad line, from 1, what is wrong with it, and its first `MOST_TEXT` bytes, without a
-    /// carriage return at its end; 4,294,967,295 stands for that number and all above.
+    /// The first bad line, from 1, what is wrong with it, and its first `MOST_TEXT` bytes, without
+    /// a carriage return at its end; 4,294,967,295 stands for that number and all above.
     Bad {
         line: u32,
         kind: Kind,

@@ -1,6 +1,7 @@
 //! Receives, each of whose reports is handled before the next.
 
-ghost use Rattle.std.specs.Prelude.{◌≡◌, ◌≤◌, ℕ, suc, true, false, Ok, List, IfOk, IfErr, IsOk, IsErrOf};
+ghost use Rattle.std.specs.Prelude.{◌≡◌, ◌≤◌, ℕ, suc, true, false, Ok, List, IfOk, IfErr, IsOk};
+ghost use Rattle.std.specs.Prelude.{IsErrOf};
 ghost use Rattle.mr_model.specs.declared.caller.CallError.TheVariants as call_error;
 ghost use Rattle.smc_core.specs.Driving.{polled, handled};
 ghost use Rattle.smc_driver.specs.Leading.{Leads, Goes, Breaks, all};
