@@ -88,15 +88,6 @@ too_much most bs over = by_case (is_numeral (digits_of bs))
 pub is_number : (most n : ℕ) (bs : List ℕ) → begins_number bs ≡ true → fold digit_on 0 (digits_of bs) ≡ n → n ≤ most → number_of most (digits_of bs) ≡ Some n
 is_number most n bs begins is within = rw (sym (begins_leads bs) ∙ begins, digits_all bs, is, le-leb n most within) refl
 
--- One more digit makes the number too great.
-pub grown_over : (most value : ℕ) (left whole : List ℕ) → 1 ≤ length left → is_digit (get_or left 0 0) ≡ true → (digit_on value (get_or left 0 0) ≤ most → ⊥) →
-    fold digit_on value (digits_of left) ≡ fold digit_on 0 (digits_of whole) → most < fold digit_on 0 (digits_of whole)
-grown_over most value [] whole some digit over reads = absurd (omega arith)
-grown_over most value (b ∷ after) whole some digit over reads =
-    let cut : digits_of (b ∷ after) ≡ b ∷ digits_of after = rw digit refl in
-    let more : fold digit_on (digit_on value b) (digits_of after) ≡ fold digit_on 0 (digits_of whole) = sym (ap (fold digit_on value) cut) ∙ reads in
-    omega (arith, grows (digits_of after) (digit_on value b), more, over)
-
 -- One more digit makes the number greater than it may be, whatever digits come behind.
 pub grown_above : (most value total : ℕ) (left : List ℕ) → 1 ≤ length left → is_digit (get_or left 0 0) ≡ true → (digit_on value (get_or left 0 0) ≤ most → ⊥) →
     fold digit_on value (digits_of left) ≡ total → most < total

@@ -9,8 +9,7 @@ ghost use Rattle.mr_lines.specs.Words.{name_of};
 ghost use Rattle.mr_words.specs.Parts.{before, parts_of};
 
 use crate::cursor::{ends, next_word};
-use crate::long_numbers::u64_at;
-use crate::numbers::{first_number, u16_at, u32_at};
+use crate::numbers::{first_number, u16_at, u32_at, u64_at};
 use crate::words::{addr_of, name_of};
 use mr_base::{Addr, DaemonNo, FileName, LaneNo};
 use mr_model::{MfcKey, RouteTotals, VifTotals};

@@ -6,7 +6,6 @@ mod fields;
 mod items;
 mod laws;
 mod line;
-mod long_numbers;
 mod masks;
 mod numbers;
 mod outcomes;

@@ -1,10 +1,12 @@
 //! Masks, read in one pass.
 
-ghost use Rattle.std.specs.Prelude.{◌≡◌, ◌+◌, ◌^◌, ◌<◌, ◌≤◌, None, Some, MatchOption, true, false};
-ghost use Rattle.mr_lines.specs.Bytes.{behind, ends, begins_comma, Gives};
+ghost use Rattle.std.specs.Prelude.{◌≡◌, ◌+◌, ◌^◌, ◌<◌, ◌≤◌, None, Some, IfSome, MatchOption, true};
+ghost use Rattle.std.specs.Prelude.{false};
+ghost use Rattle.mr_lines.specs.Bytes.{behind, ends, begins_comma, digits_of, past_digits, Gives};
 ghost use Rattle.mr_lines.specs.Fields.{leaving};
 ghost use Rattle.mr_lines.specs.Reading.{mask};
 ghost use Rattle.mr_lines.specs.Words.{with_vifs};
+ghost use Rattle.mr_words.specs.Numbers.{number_of};
 ghost use Rattle.mr_words.specs.Parts.{before, parts_behind, parts_of};
 
 use crate::cursor::ends;
@@ -32,6 +34,19 @@ fn is_comma(bytes: &[u8]) -> bool
     bytes.len() != 0 && bytes[0] == b','
 }
 
+/// The vif whose number begins here, and the bytes behind its digits.
+#[inline(always)]
+fn leading_vif(bytes: &[u8]) -> Option<(u32, &[u8])>
+    ensures number { MatchOption result (number_of 31 (digits_of bytes.now) ≡ None) (λ x.
+        (number_of 31 (digits_of bytes.now) ≡ Some x.0) × (x.1.now ≡ past_digits bytes.now)) }
+    ensures within { IfSome result (λ x. x.0 ≤ 31) }
+{
+    match leading_number(bytes, 31) {
+        None => None,
+        Some((vif, left)) => Some((vif as u32, left)),
+    }
+}
+
 /// The mask of the first word, and what is left behind it.
 #[inline(always)]
 fn vifs(bytes: &[u8]) -> Option<(u32, &[u8])>
@@ -42,7 +57,7 @@ fn vifs(bytes: &[u8]) -> Option<(u32, &[u8])>
     let mut least = 0u32;
     let mut left = bytes;
     'vifs: loop {
-        match leading_number(left, 31) {
+        match leading_vif(left) {
             None => return None,
             Some((vif, after)) => {
                 if vif < least {

@@ -1,15 +1,14 @@
 //! Numbers read in one pass.
 
-ghost use Rattle.std.specs.Prelude.{◌≡◌, ◌<◌, ◌≤◌, ◌∷◌, ◌==◌, ◌&&◌, nat_le, if◌then◌else◌, Some};
-ghost use Rattle.std.specs.Prelude.{None, IfSome, MatchOption, SomeIff, length, slice_index, fold};
+ghost use Rattle.std.specs.Prelude.{◌≡◌, ◌<◌, ◌≤◌, Some, None, IfSome, MatchOption, fold};
 ghost use Rattle.mr_lines.specs.Bytes.{behind, ends, digits_of, past_digits, begins_number, Gives};
 ghost use Rattle.mr_lines.specs.Fields.{one};
-ghost use Rattle.mr_lines.specs.Reading.{u8, u16, u32};
-ghost use Rattle.mr_words.specs.Numbers.{digit_on, is_digit, number_of};
+ghost use Rattle.mr_lines.specs.Reading.{u8, u16, u32, u64};
+ghost use Rattle.mr_words.specs.Numbers.{digit_on, number_of};
 ghost use Rattle.mr_words.specs.Parts.{parts_of};
 
 use crate::cursor::ends;
-use mr_words::{behind_first, is_digit};
+use mr_words::{behind_first, is_digit, with_digit};
 
 /// Whether a number may begin here: a digit, and it is no zero before other digits.
 #[inline(always)]
@@ -21,24 +20,10 @@ pub fn begins_number(bytes: &[u8]) -> bool
         && (bytes[0] != b'0' || bytes.len() == 1 || !is_digit(bytes[1]))
 }
 
-/// A number with one more digit, if it is at most `most`.
-#[inline(always)]
-fn grown(value: u64, digit: u8, most: u32) -> Option<u64>
-    requires { value ≤ most }
-    ensures { SomeIff result (digit_on value digit ≤ most) (digit_on value digit) }
-{
-    let next = value * 10 + u64::from(digit.saturating_sub(b'0'));
-    if next <= u64::from(most) {
-        Some(next)
-    } else {
-        None
-    }
-}
-
 /// The number that the digits here spell behind those of a first number, if it is at most `most`,
 /// and the bytes behind them.
 #[inline(always)]
-fn digits(first: u64, bytes: &[u8], most: u32) -> Option<(u32, &[u8])>
+fn digits(first: u64, bytes: &[u8], most: u64) -> Option<(u64, &[u8])>
     requires { first ≤ most }
     ensures { MatchOption result (most < fold digit_on first (digits_of bytes.now)) (λ x.
         (fold digit_on first (digits_of bytes.now) ≡ x.0)
@@ -48,20 +33,20 @@ fn digits(first: u64, bytes: &[u8], most: u32) -> Option<(u32, &[u8])>
     let mut left = bytes;
     'digits: while let [b, after @ ..] = left {
         if !is_digit(*b) {
-            return Some((value as u32, left));
+            return Some((value, left));
         }
-        match grown(value, *b, most) {
+        match with_digit(value, *b, most) {
             Some(next) => value = next,
             None => return None,
         }
         left = after;
     }
-    Some((value as u32, left))
+    Some((value, left))
 }
 
 /// The number that begins here, if it is at most `most`, and the bytes behind its digits.
 #[inline(always)]
-pub fn leading_number(bytes: &[u8], most: u32) -> Option<(u32, &[u8])>
+pub fn leading_number(bytes: &[u8], most: u64) -> Option<(u64, &[u8])>
     ensures number { MatchOption result (number_of most (digits_of bytes.now) ≡ None) (λ x.
         (number_of most (digits_of bytes.now) ≡ Some x.0) × (x.1.now ≡ past_digits bytes.now)) }
     ensures within { IfSome result (λ x. x.0 ≤ most) }
@@ -69,7 +54,7 @@ pub fn leading_number(bytes: &[u8], most: u32) -> Option<(u32, &[u8])>
     if !begins_number(bytes) {
         return None;
     }
-    match grown(0, bytes[0], most) {
+    match with_digit(0, bytes[0], most) {
         None => None,
         Some(first) => match digits(first, behind_first(bytes), most) {
             None => None,
@@ -80,7 +65,7 @@ pub fn leading_number(bytes: &[u8], most: u32) -> Option<(u32, &[u8])>
 
 /// The number that the first word spells, if it is at most `most`, and what is left behind it.
 #[inline(always)]
-pub fn first_number(bytes: &[u8], most: u32) -> Option<(u32, &[u8])>
+pub fn first_number(bytes: &[u8], most: u64) -> Option<(u64, &[u8])>
     ensures number { Gives (λ r. r.now) result (one (number_of most) (parts_of 32 bytes.now)) }
     ensures within { IfSome result (λ x. x.0 ≤ most) }
 {
@@ -99,7 +84,7 @@ pub fn first_number(bytes: &[u8], most: u32) -> Option<(u32, &[u8])>
 /// The number that the next word of what is left spells, if it is at most `most`, and what is left
 /// behind it.
 #[inline(always)]
-fn number_at(rest: &[u8], most: u32) -> Option<(u32, &[u8])>
+fn number_at(rest: &[u8], most: u64) -> Option<(u64, &[u8])>
     ensures number { Gives (λ r. r.now) result (one (number_of most) (behind rest.now)) }
     ensures within { IfSome result (λ x. x.0 ≤ most) }
 {
@@ -109,12 +94,27 @@ fn number_at(rest: &[u8], most: u32) -> Option<(u32, &[u8])>
     }
 }
 
+/// The number that the first word spells, if it is one of 64 bits, and what is left behind it.
+pub fn first_u64(bytes: &[u8]) -> Option<(u64, &[u8])>
+    ensures { Gives (λ r. r.now) result (u64 (parts_of 32 bytes.now)) }
+{
+    first_number(bytes, u64::MAX)
+}
+
+/// A number of 64 bits.
+pub fn u64_at(rest: &[u8]) -> Option<(u64, &[u8])>
+    ensures { Gives (λ r. r.now) result (u64 (behind rest.now)) }
+{
+    number_at(rest, u64::MAX)
+}
+
 /// A number of 32 bits.
 #[inline(always)]
 pub fn u32_at(rest: &[u8]) -> Option<(u32, &[u8])>
     ensures { Gives (λ r. r.now) result (u32 (behind rest.now)) }
 {
-    number_at(rest, u32::MAX)
+    let (number, left) = number_at(rest, u64::from(u32::MAX))?;
+    Some((number as u32, left))
 }
 
 /// A number of 16 bits.

@@ -15,9 +15,8 @@ use crate::fields::{
     addr_at, daemon_at, lane_at, name_at, past_dash, route_totals_at, vif_or_none_at, vif_totals_at,
 };
 use crate::line::Line;
-use crate::long_numbers::{first_u64, u64_at};
 use crate::masks::mask_at;
-use crate::numbers::{u8_at, u32_at};
+use crate::numbers::{first_u64, u8_at, u32_at, u64_at};
 use crate::outcomes::{fate_at, message_at, outcome_at};
 use crate::requests::{asked_at, reply_at};
 use crate::skip::Skip;

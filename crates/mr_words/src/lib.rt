@@ -13,5 +13,5 @@ mod tests;
 pub use cursor::{behind_first, from_index, next_word, past, split_line, trimmed};
 pub use items::item_of;
 pub use names::{is_clean, is_device_name, is_file, name_of};
-pub use numbers::{address_of, is_digit, number_of};
+pub use numbers::{address_of, is_digit, long_number_of, number_of, with_digit};
 pub use parts::split_part;

@@ -35,24 +35,22 @@ fn is_numeral(word: &[u8]) -> bool
 }
 
 /// A number with one more digit, if it is at most `most`.
-fn grown(value: u32, digit: u8, most: u32) -> Option<u32>
+#[inline(always)]
+pub fn with_digit(value: u64, digit: u8, most: u64) -> Option<u64>
     ensures { SomeIff result (digit_on value digit ≤ most) (digit_on value digit) }
 {
-    let next = u64::from(value) * 10 + u64::from(digit.saturating_sub(b'0'));
-    if next <= u64::from(most) {
-        Some(next as u32)
-    } else {
-        None
-    }
+    let tens = value.checked_mul(10)?;
+    let next = tens.checked_add(u64::from(digit.saturating_sub(b'0')))?;
+    if next <= most { Some(next) } else { None }
 }
 
 /// The number that digits spell, if it is at most `most`.
-fn value_of(word: &[u8], most: u32) -> Option<u32>
+fn value_of(word: &[u8], most: u64) -> Option<u64>
     ensures { SomeIff result (fold digit_on 0 word.now ≤ most) (fold digit_on 0 word.now) }
 {
-    let mut value = 0u32;
+    let mut value = 0u64;
     for b in word {
-        match grown(value, *b, most) {
+        match with_digit(value, *b, most) {
             Some(next) => value = next,
             None => return None,
         }
@@ -60,8 +58,8 @@ fn value_of(word: &[u8], most: u32) -> Option<u32>
     Some(value)
 }
 
-/// The number that a word spells, if it is at most `most`.
-pub fn number_of(word: &[u8], most: u32) -> Option<u32>
+/// The number of 64 bits that a word spells, if it is at most `most`.
+pub fn long_number_of(word: &[u8], most: u64) -> Option<u64>
     ensures value { result ≡ number_of most word.now }
     ensures within { IfSome result (λ n. n ≤ most) }
 {
@@ -69,6 +67,17 @@ pub fn number_of(word: &[u8], most: u32) -> Option<u32>
         return None;
     }
     value_of(word, most)
+}
+
+/// The number of 32 bits that a word spells, if it is at most `most`.
+pub fn number_of(word: &[u8], most: u32) -> Option<u32>
+    ensures value { result ≡ number_of most word.now }
+    ensures within { IfSome result (λ n. n ≤ most) }
+{
+    match long_number_of(word, u64::from(most)) {
+        Some(n) => Some(n as u32),
+        None => None,
+    }
 }
 
 /// The four parts of a word that three dots part.

@@ -1,7 +1,0 @@
-use Rattle.std.proofs.Common.{sym, ◌∙◌}
-use Rattle.mr_lines.proofs.ByteLaws.{grown_over}
-use Rattle.mr_lines.proofs.long_numbers.digits.Goals as goal
-
-pub returns-in-None : goal.returns-in-None
-returns-in-None c =
-    grown_over 18446744073709551615 c.digits.value c.digits.left.now c.args.bytes.now c.in-len1-up.len_at_least (sym c.is_digit.ensures ∙ c.if-not-is_digit.false) c.in-None.ensures c.digits.invariant.value
