@@ -21,8 +21,11 @@ pub trait Door {
     // How many calls failed; it stops at its highest value, 2^64 - 1.
     ghost faults: { Self → ℕ };
 
-    /// The next link, or `None` where none is to come. After `Failed` nothing is said of those to
-    /// come.
+    /// The next link, or `None` where none is to come.
+    ///
+    /// # Errors
+    ///
+    /// [`Failed`] where no link could be taken; nothing is said of those to come then.
     fn next(&mut self) -> Result<Option<Self::Link>, Failed>
         requires { is_out self.old ≡ false }
         ensures first { IfOk result (λ link. GivesLink (to_come self.old) link (to_come self.new)) }

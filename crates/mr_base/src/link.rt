@@ -16,7 +16,11 @@ pub trait Link {
     ghost faults: { Self → ℕ };
 
     /// Moves the next bytes to the front of `space` and gives their number, which is 0 only where
-    /// no byte is to come or `space` is empty. After `Failed` nothing is said of the bytes to come.
+    /// no byte is to come or `space` is empty.
+    ///
+    /// # Errors
+    ///
+    /// [`Failed`] where the bytes could not be read; nothing is said of those to come then.
     fn get(&mut self, space: &mut [u8]) -> Result<usize, Failed>
         ensures at_most { IfOk result (λ n. n ≤ length space.old) }
         ensures moved { IfOk result (λ n.
@@ -28,7 +32,11 @@ pub trait Link {
         ensures good { IfOk result (λ _. faults self.new ≡ faults self.old) }
         ensures fault { OnErr result (Rose (faults self.old) (faults self.new)) };
 
-    /// Appends all bytes to those taken. After `Failed` a prefix of them was appended.
+    /// Appends all bytes to those taken.
+    ///
+    /// # Errors
+    ///
+    /// [`Failed`] where not all bytes were taken; a prefix of them was appended then.
     fn put(&mut self, bytes: &[u8]) -> Result<(), Failed>
         ensures all { OnOk result (Takes (taken self.old) bytes.now (taken self.new)) }
         ensures prefix { OnErr result (TakesPrefix (taken self.old) bytes.now (taken self.new)) }

@@ -18,8 +18,12 @@ pub struct MemDoor {
 
 impl MemDoor {
     /// A door by which these links are to come, with room for all of them once they are given back.
-    /// Without memory for that room the answer is `Memory`. `fails` has the numbers, from 1, of the
-    /// calls of `next` that are to fail; for now it has to be empty.
+    /// `fails` has the numbers, from 1, of the calls of `next` that are to fail; for now it has to
+    /// be empty.
+    ///
+    /// # Errors
+    ///
+    /// [`Memory`] where there is none for that room.
     pub fn with(alloc: Global, links: Vec<MemLink>, fails: Vec<u64>) -> Result<Self, Memory>
         requires { fails.items ≡ [] }
         ensures to_come { IfOk result (λ door.

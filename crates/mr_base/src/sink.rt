@@ -11,7 +11,11 @@ pub trait Sink {
     // How many calls failed; it stops at its highest value, 2^64 - 1.
     ghost faults: { Self → ℕ };
 
-    /// Appends all bytes to those taken. After `Failed` a prefix of them was appended.
+    /// Appends all bytes to those taken.
+    ///
+    /// # Errors
+    ///
+    /// [`Failed`] where not all bytes were taken; a prefix of them was appended then.
     fn put(&mut self, bytes: &[u8]) -> Result<(), Failed>
         ensures all { OnOk result (Takes (taken self.old) bytes.now (taken self.new)) }
         ensures prefix { OnErr result (TakesPrefix (taken self.old) bytes.now (taken self.new)) }

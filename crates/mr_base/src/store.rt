@@ -23,7 +23,12 @@ pub trait Store {
     // All calls so far, for clauses alone: objects keep them in a `Log`, which takes no memory.
     ghost calls: { Self → List StoreCall };
 
-    /// The bytes of a file. A name that is not there is a failed read.
+    /// The bytes of a file.
+    ///
+    /// # Errors
+    ///
+    /// `Failed` where the file is not there or could not be read, and `Memory` where memory runs
+    /// out.
     fn read(&mut self, alloc: Global, name: &str) -> Result<Vec<u8>, ReadError>
         requires named { 1 ≤ length name.now }
         requires fits { length name.now ≤ 255 }
@@ -40,7 +45,11 @@ pub trait Store {
         ensures called { calls self.new ≡ calls self.old
             ++ record { is_read = true; name = name.now; failed = is_failed_read result } ∷ [] };
 
-    /// Sets the bytes of a file, which may be new. After `Failed` its bytes may be anything.
+    /// Sets the bytes of a file, which may be new.
+    ///
+    /// # Errors
+    ///
+    /// [`Failed`] where the bytes could not be written; the file may then have any.
     fn write(&mut self, name: &str, bytes: &[u8]) -> Result<(), Failed>
         requires named { 1 ≤ length name.now }
         requires fits { length name.now ≤ 255 }

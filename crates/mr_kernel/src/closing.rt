@@ -60,6 +60,10 @@ fn oldest_first(alloc: Global, cache: &Cache) -> Result<Vec<Route>, AllocError>
 }
 
 /// The entries, oldest first, with their totals.
+///
+/// # Errors
+///
+/// [`AllocError`] where memory runs out.
 pub fn route_lines(
     alloc: Global,
     cache: &Cache,
@@ -87,6 +91,10 @@ fn vif_pair(vifs: &Vifs, journal: &Journal, i: u8) -> Option<(VifRecord, VifTota
 }
 
 /// The vifs with these indexes, with their totals.
+///
+/// # Errors
+///
+/// [`AllocError`] where memory runs out.
 pub fn vif_lines(
     alloc: Global,
     vifs: &Vifs,

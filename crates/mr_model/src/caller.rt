@@ -29,8 +29,12 @@ pub trait Caller {
     fn left(&self) -> u32
         ensures { result ≡ entries_left self.now };
 
-    /// Makes a control call. `ControlFull` comes where no control entry is left, and `Memory` where
-    /// a change of the tables finds no memory; neither is an entry.
+    /// Makes a control call.
+    ///
+    /// # Errors
+    ///
+    /// [`CallError::ControlFull`] where no control entry is left, and [`CallError::Memory`] where a
+    /// change of the tables finds no memory; neither is an entry.
     fn call(&mut self, request: &Request) -> Result<Reply, CallError>
         ensures ok { IfOk result (λ reply.
             did self.new ≡ did self.old ++ Asked request.now reply ∷ []) }
@@ -41,6 +45,10 @@ pub trait Caller {
 
     /// Takes the oldest unread report; none where there is none, or where the caller is not the
     /// owner.
+    ///
+    /// # Errors
+    ///
+    /// [`ControlFull`] where no control entry is left.
     fn recv(&mut self) -> Result<Option<Told>, ControlFull>
         ensures ok { IfOk result (λ told. did self.new ≡ did self.old ++ Received told ∷ []) }
         ensures err { OnErr result (did self.new ≡ did self.old) }
@@ -49,6 +57,10 @@ pub trait Caller {
         ensures surely { entries_left self.old ≡ 0 → IsErr result };
 
     /// Lets so many milliseconds pass.
+    ///
+    /// # Errors
+    ///
+    /// [`ControlFull`] where no control entry is left.
     fn tick(&mut self, ms: u32) -> Result<(), ControlFull>
         ensures ok { IfOk result (λ _. did self.new ≡ did self.old ++ Ticked ms ∷ []) }
         ensures err { OnErr result (did self.new ≡ did self.old) }

@@ -14,6 +14,10 @@ use mr_plain_lists::{Known, Meeting, route_lines, vif_lines};
 use std::alloc::{AllocError, Global};
 
 /// What a history ends with for which these lists stand.
+///
+/// # Errors
+///
+/// [`AllocError`] where memory runs out.
 pub fn gather(
     alloc: Global,
     known: &Known,

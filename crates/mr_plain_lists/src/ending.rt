@@ -44,6 +44,10 @@ fn route_pairs(
 }
 
 /// The entries by rising number, with their totals.
+///
+/// # Errors
+///
+/// [`AllocError`] where memory runs out.
 pub fn route_lines(
     alloc: Global,
     routes: &[Route],
@@ -78,6 +82,10 @@ fn vif_pairs(
 }
 
 /// The vifs by rising index, with their totals.
+///
+/// # Errors
+///
+/// [`AllocError`] where memory runs out.
 pub fn vif_lines(
     alloc: Global,
     vifs: &[VifRecord],

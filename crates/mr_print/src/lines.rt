@@ -16,8 +16,11 @@ use mr_lines::{RouteLine, Skip, VifLine};
 use mr_model::{FateLine, MessageId, Outcome, ReleasedId, Reply, Request};
 use std::alloc::AllocError;
 
-/// Puts `history 1`, the first line. Without memory for all of it the answer is `AllocError`,
-/// and a part of it may stand.
+/// Puts `history 1`, the first line.
+///
+/// # Errors
+///
+/// [`AllocError`] where memory runs out; a part of the line may stand then.
 pub fn write_first(out: &mut Vec<u8>) -> Result<(), AllocError>
     ensures { OnOk result (out.new.items ≡ out.old.items ++ line_bytes (line_words line.History)) }
 {
@@ -25,8 +28,11 @@ pub fn write_first(out: &mut Vec<u8>) -> Result<(), AllocError>
     Ok(())
 }
 
-/// Puts `end`, the last line. Without memory for all of it the answer is `AllocError`,
-/// and a part of it may stand.
+/// Puts `end`, the last line.
+///
+/// # Errors
+///
+/// [`AllocError`] where memory runs out; a part of the line may stand then.
 pub fn write_end(out: &mut Vec<u8>) -> Result<(), AllocError>
     ensures { OnOk result (out.new.items ≡ out.old.items ++ line_bytes (line_words line.End)) }
 {
@@ -34,8 +40,11 @@ pub fn write_end(out: &mut Vec<u8>) -> Result<(), AllocError>
     Ok(())
 }
 
-/// Puts the line of an item that is no packet. Without memory for all of it the answer is
-/// `AllocError`, and a part of it may stand.
+/// Puts the line of an item that is no packet.
+///
+/// # Errors
+///
+/// [`AllocError`] where memory runs out; a part of the line may stand then.
 pub fn write_skip(out: &mut Vec<u8>, skip: &Skip) -> Result<(), AllocError>
     ensures { OnOk result
         (out.new.items ≡ out.old.items ++ line_bytes (line_words (line.Skip skip.now))) }
@@ -66,8 +75,11 @@ fn write_call_words(
     Ok(())
 }
 
-/// Puts the first line of a call. Without memory for all of it the answer is `AllocError`,
-/// and a part of it may stand.
+/// Puts the first line of a call.
+///
+/// # Errors
+///
+/// [`AllocError`] where memory runs out; a part of the line may stand then.
 pub fn write_call(
     out: &mut Vec<u8>,
     number: u64,
@@ -84,8 +96,11 @@ pub fn write_call(
     Ok(())
 }
 
-/// Puts the line of a packet that a call released. Without memory for all of it the answer is
-/// `AllocError`, and a part of it may stand.
+/// Puts the line of a packet that a call released.
+///
+/// # Errors
+///
+/// [`AllocError`] where memory runs out; a part of the line may stand then.
 pub fn write_released(out: &mut Vec<u8>, released: &ReleasedId) -> Result<(), AllocError>
     ensures { OnOk result
         (out.new.items ≡ out.old.items ++ line_bytes (line_words (line.Released released.now))) }
@@ -117,8 +132,11 @@ fn write_slow_words(
     Ok(())
 }
 
-/// Puts the line of a packet that was decided under the lock. Without memory for all of it the
-/// answer is `AllocError`, and a part of it may stand.
+/// Puts the line of a packet that was decided under the lock.
+///
+/// # Errors
+///
+/// [`AllocError`] where memory runs out; a part of the line may stand then.
 pub fn write_slow(
     out: &mut Vec<u8>,
     number: u64,
@@ -136,8 +154,11 @@ pub fn write_slow(
     Ok(())
 }
 
-/// Puts the first line of a settle of `count` records. Without memory for all of it the answer is
-/// `AllocError`, and a part of it may stand.
+/// Puts the first line of a settle of `count` records.
+///
+/// # Errors
+///
+/// [`AllocError`] where memory runs out; a part of the line may stand then.
 pub fn write_settle(
     out: &mut Vec<u8>,
     number: u64,
@@ -155,8 +176,11 @@ pub fn write_settle(
     Ok(())
 }
 
-/// Puts the line of a tick. Without memory for all of it the answer is `AllocError`,
-/// and a part of it may stand.
+/// Puts the line of a tick.
+///
+/// # Errors
+///
+/// [`AllocError`] where memory runs out; a part of the line may stand then.
 pub fn write_tick(
     out: &mut Vec<u8>,
     number: u64,
@@ -174,8 +198,11 @@ pub fn write_tick(
     Ok(())
 }
 
-/// Puts the line of what a daemon received. Without memory for all of it the answer is
-/// `AllocError`, and a part of it may stand.
+/// Puts the line of what a daemon received.
+///
+/// # Errors
+///
+/// [`AllocError`] where memory runs out; a part of the line may stand then.
 pub fn write_recv(
     out: &mut Vec<u8>,
     number: u64,
@@ -193,8 +220,11 @@ pub fn write_recv(
     Ok(())
 }
 
-/// Puts the line at which a phase ends. Without memory for all of it the answer is `AllocError`,
-/// and a part of it may stand.
+/// Puts the line at which a phase ends.
+///
+/// # Errors
+///
+/// [`AllocError`] where memory runs out; a part of the line may stand then.
 pub fn write_phase(out: &mut Vec<u8>, number: u64) -> Result<(), AllocError>
     ensures { OnOk result
         (out.new.items ≡ out.old.items ++ line_bytes (line_words (line.Phase number))) }
@@ -204,8 +234,11 @@ pub fn write_phase(out: &mut Vec<u8>, number: u64) -> Result<(), AllocError>
     Ok(())
 }
 
-/// Puts the line of a live entry. Without memory for all of it the answer is `AllocError`,
-/// and a part of it may stand.
+/// Puts the line of a live entry.
+///
+/// # Errors
+///
+/// [`AllocError`] where memory runs out; a part of the line may stand then.
 pub fn write_route(out: &mut Vec<u8>, route: &RouteLine) -> Result<(), AllocError>
     ensures { OnOk result
         (out.new.items ≡ out.old.items ++ line_bytes (line_words (line.Route route.now))) }
@@ -220,8 +253,11 @@ pub fn write_route(out: &mut Vec<u8>, route: &RouteLine) -> Result<(), AllocErro
     Ok(())
 }
 
-/// Puts the line of a live vif. Without memory for all of it the answer is `AllocError`,
-/// and a part of it may stand.
+/// Puts the line of a live vif.
+///
+/// # Errors
+///
+/// [`AllocError`] where memory runs out; a part of the line may stand then.
 pub fn write_vif(out: &mut Vec<u8>, vif: &VifLine) -> Result<(), AllocError>
     ensures { OnOk result
         (out.new.items ≡ out.old.items ++ line_bytes (line_words (line.Vif vif.now))) }
@@ -235,8 +271,11 @@ pub fn write_vif(out: &mut Vec<u8>, vif: &VifLine) -> Result<(), AllocError>
     Ok(())
 }
 
-/// Puts the line of the fate of a packet. Without memory for all of it the answer is `AllocError`,
-/// and a part of it may stand.
+/// Puts the line of the fate of a packet.
+///
+/// # Errors
+///
+/// [`AllocError`] where memory runs out; a part of the line may stand then.
 pub fn write_fate(out: &mut Vec<u8>, fate: &FateLine) -> Result<(), AllocError>
     ensures { OnOk result
         (out.new.items ≡ out.old.items ++ line_bytes (line_words (line.Fate fate.now))) }

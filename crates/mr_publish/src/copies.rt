@@ -96,8 +96,11 @@ pub type CopyReading<J> = Reading<TablesCopy, (), Shown<J>>;
 
 pub type CopyWriter<J> = Writer<TablesCopy, Batch, (), Shown<J>>;
 
-/// Shows lookers a copy with a batch more. Where there is no room for the batch, the writer comes
-/// back as it was.
+/// Shows lookers a copy with a batch more.
+///
+/// # Errors
+///
+/// The writer, as it was, where there is no room for the batch.
 pub fn show<J: PairName, R: Wait>(
     rt: &R,
     back: CopyWriter<J>,

@@ -154,7 +154,10 @@ fn take_other<'a>(
 
 /// Puts the record in front of a text behind others, and answers the bytes behind its line. Where
 /// the first line is no record, or has no line feed, the answer is `None` and nothing is put.
-/// Without memory the answer is `AllocError`.
+///
+/// # Errors
+///
+/// [`AllocError`] where memory runs out.
 #[inline(always)]
 pub fn take_record<'a>(
     kept: &mut Kept,

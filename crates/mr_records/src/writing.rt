@@ -94,8 +94,11 @@ fn write_new(out: &mut Vec<u8>, ways: &mut Ways, packet: &FastRecord) -> Result<
     Ok(())
 }
 
-/// Puts the line of a packet that was forwarded without the lock. Without memory for all of it the
-/// answer is `AllocError`, and a part of it may stand.
+/// Puts the line of a packet that was forwarded without the lock.
+///
+/// # Errors
+///
+/// [`AllocError`] where memory runs out; a part of the line may stand then.
 #[inline(always)]
 pub fn write_record(
     out: &mut Vec<u8>,

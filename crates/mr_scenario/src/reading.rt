@@ -267,8 +267,12 @@ fn whole(alloc: Global, draft: Draft) -> Result<Scenario, ScenarioError>
     })
 }
 
-/// The scenario that bytes spell: `Bad` with the first bad line, what is wrong with it and what was
-/// found there, or `Memory` where it runs out.
+/// The scenario that bytes spell.
+///
+/// # Errors
+///
+/// `Bad` with the first bad line, what is wrong with it and what was found there; `Memory` where it
+/// runs out.
 pub fn read(alloc: Global, bytes: &[u8]) -> Result<Scenario, ScenarioError>
     ensures spelled { Gives (λ s. s) result (spelled bytes.now) }
     ensures fits { IfOk result Fits }

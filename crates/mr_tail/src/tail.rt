@@ -81,6 +81,10 @@ fn vif_lines(
 }
 
 /// The lines of what a history ends with.
+///
+/// # Errors
+///
+/// [`AllocError`] where memory runs out.
 pub fn tail_of(alloc: Global, devices: &[Named], ending: Ending) -> Result<Tail, AllocError>
     ensures { IfOk result (λ t. t ≡ tail_of devices.now ending) }
 {

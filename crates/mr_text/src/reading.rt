@@ -127,8 +127,11 @@ fn whole(line: u32, state: State, bytes: &[u8]) -> Result<HistoryText, TextError
 
 /// Reads the text of a history: its parts, whose text is just these bytes.
 ///
-/// Errors: `Line` with the first line outside the grammar, or one more than the number of whole
-/// lines where the text ends before `end`, or where its last line has no line feed; `Memory`.
+/// # Errors
+///
+/// `Line` with the first line outside the grammar, or one more than the number of whole lines where
+/// the text ends before `end`, or where its last line has no line feed; `Memory` where memory runs
+/// out.
 pub fn read_history(alloc: Global, bytes: &[u8]) -> Result<HistoryText, TextError>
     ensures exact { Gives result (walked bytes.now) }
     ensures found { IfOk result (λ t. PartsFit t.skips t.entries t.tail

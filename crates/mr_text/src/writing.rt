@@ -15,6 +15,10 @@ use mr_records::{Ways, write_record};
 use std::alloc::{AllocError, Global};
 
 /// The lines of the items that are no packets.
+///
+/// # Errors
+///
+/// [`AllocError`] where memory runs out; a part of the lines may stand then.
 pub fn write_skips(out: &mut Vec<u8>, skips: &[Skip]) -> Result<(), AllocError>
     ensures { OnOk result
         (out.new.items ≡ out.old.items ++ flat_map line_text (map line.Skip skips.now)) }
@@ -52,6 +56,10 @@ fn write_records(
 }
 
 /// The lines of a call.
+///
+/// # Errors
+///
+/// [`AllocError`] where memory runs out; a part of the lines may stand then.
 pub fn write_call_lines(
     out: &mut Vec<u8>,
     number: u64,
@@ -85,6 +93,10 @@ fn write_settle_lines(
 }
 
 /// The lines of an entry. The ways of its records are found in those that were kept, or kept.
+///
+/// # Errors
+///
+/// [`AllocError`] where memory runs out; a part of the lines may stand then.
 pub fn write_entry(
     out: &mut Vec<u8>,
     ways: &mut Ways,
@@ -165,6 +177,10 @@ fn write_fates(out: &mut Vec<u8>, fates: &[FateLine]) -> Result<(), AllocError>
 }
 
 /// The lines of the tail.
+///
+/// # Errors
+///
+/// [`AllocError`] where memory runs out; a part of the lines may stand then.
 pub fn write_tail(out: &mut Vec<u8>, tail: &Tail) -> Result<(), AllocError>
     ensures { OnOk result
         (out.new.items ≡ out.old.items ++ flat_map line_text (tail_lines tail.now)) }
@@ -236,7 +252,11 @@ fn history_bytes(
 }
 
 /// The text of a history: its first line, the skips, the entries with their numbers from 1, the
-/// tail and its last line. Without memory for it the answer is `Memory`.
+/// tail and its last line.
+///
+/// # Errors
+///
+/// [`Memory`] where there is none for the text.
 pub fn write_history(
     alloc: Global,
     skips: &[Skip],

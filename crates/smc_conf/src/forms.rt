@@ -85,6 +85,11 @@ fn length_in(rest: Option<&[u8]>) -> Option<u8>
 }
 
 /// The prefix that a word `A` or `A/LEN` spells.
+///
+/// # Errors
+///
+/// [`Kind::Word`] where a byte may not stand in a word; else [`Kind::Address`] where the front is
+/// no address, and [`Kind::Prefix`] where the length is none of 0 to 32.
 pub fn source_word(word: &[u8]) -> Result<Prefix, Kind>
     ensures { result ≡ source_word word.now }
 {
@@ -111,6 +116,11 @@ fn group_address(word: &[u8]) -> Option<u32>
 }
 
 /// The prefix of groups that a word `G` or `G/LEN` spells.
+///
+/// # Errors
+///
+/// [`Kind::Word`] where a byte may not stand in a word; else [`Kind::Address`] where the front is
+/// no address of a group, and [`Kind::Prefix`] where the length is none of 0 to 32.
 pub fn group_word(word: &[u8]) -> Result<Prefix, Kind>
     ensures { result ≡ group_word word.now }
 {
