@@ -41,5 +41,5 @@ pub fn next_word(rest: &[u8]) -> Option<(&[u8], &[u8])>
 pub fn ends(bytes: &[u8]) -> bool
     ensures { result ≡ ends bytes.now }
 {
-    bytes.len() == 0 || bytes[0] == b' '
+    bytes.is_empty() || bytes[0] == b' '
 }

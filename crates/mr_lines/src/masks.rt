@@ -31,7 +31,7 @@ fn with_vif(mask: u32, vif: u32) -> u32
 fn is_comma(bytes: &[u8]) -> bool
     ensures { result ≡ begins_comma bytes.now }
 {
-    bytes.len() != 0 && bytes[0] == b','
+    !bytes.is_empty() && bytes[0] == b','
 }
 
 /// The vif whose number begins here, and the bytes behind its digits.

@@ -15,7 +15,7 @@ use mr_words::{behind_first, is_digit, with_digit};
 pub fn begins_number(bytes: &[u8]) -> bool
     ensures { result ≡ begins_number bytes.now }
 {
-    bytes.len() != 0
+    !bytes.is_empty()
         && is_digit(bytes[0])
         && (bytes[0] != b'0' || bytes.len() == 1 || !is_digit(bytes[1]))
 }

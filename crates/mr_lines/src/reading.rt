@@ -134,7 +134,7 @@ fn whole_record(rest: &[u8]) -> Option<FastRecord>
     ensures { result ≡ whole record_fields (behind rest.now) }
 {
     let (record, rest) = record_fields(rest)?;
-    if rest.len() == 0 { Some(record) } else { None }
+    if rest.is_empty() { Some(record) } else { None }
 }
 
 /// The record whose line bytes without a line feed spell, if they spell one. It is quicker than
@@ -300,5 +300,5 @@ pub fn read_line(line: &[u8]) -> Option<Line>
 {
     let (word, rest) = first_word(line);
     let (read, rest) = line_by_word(line, word, rest)?;
-    if rest.len() == 0 { Some(read) } else { None }
+    if rest.is_empty() { Some(read) } else { None }
 }
