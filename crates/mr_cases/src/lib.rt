@@ -8,11 +8,15 @@ mod tests;
 #[cfg(test)]
 mod tests_egress;
 #[cfg(test)]
+mod tests_gen;
+#[cfg(test)]
 mod tests_lanes;
 #[cfg(test)]
 mod tests_refused;
 #[cfg(test)]
 mod tests_smcroute;
+#[cfg(test)]
+mod tests_statuses;
 #[cfg(test)]
 mod tests_threads;
 #[cfg(test)]

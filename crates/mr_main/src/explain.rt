@@ -3,7 +3,8 @@
 use crate::bad_conf::explain_conf;
 use crate::form::{form, limit};
 use crate::shown::shown;
-use mr_base::{DEFAULT_CONTROLS, LONGEST_FILE, MOST_ITEMS};
+use mr_base::{DEFAULT_CONTROLS, LONGEST_FILE, MOST_ITEMS, MOST_LANES};
+use mr_command::MOST_SEED;
 use mr_replay::{MOST_TRACE_BYTES, Status, TraceCause};
 use mr_scenario::Kind;
 use std::alloc::{AllocError, Global};
@@ -162,6 +163,13 @@ fn explain_trace<R: Eprint>(rt: &R, name: &str, cause: TraceCause) -> io::Result
     }
 }
 
+/// Tells the forms of the commands.
+fn explain_usage<R: Eprint>(rt: &R) -> io::Result<()> {
+    eprintln!(rt;
+        "usage: replay SCENARIO (a file of the folder, by a name of 1 to 255 bytes that does not begin with 'out-') or gen SEED LANES PACKETS (SEED 0 to {MOST_SEED}, LANES 1 to {MOST_LANES}, PACKETS of each lane 1 or more, together at most {MOST_ITEMS})"
+    )
+}
+
 /// The scenario's file among the words.
 fn file_of(words: &[String]) -> &str {
     match words {
@@ -179,11 +187,7 @@ pub fn explain<R: Files + AllocGlobal + Eprint>(
     let file = file_of(words);
     match status {
         Status::Good => Ok(()),
-        Status::Usage => {
-            eprintln!(rt;
-                "usage: replay SCENARIO (a file of the folder, by a name of 1 to 255 bytes that does not begin with 'out-')"
-            )
-        }
+        Status::Usage => explain_usage(rt),
         Status::Scenario { line, kind, text } => {
             explain_bad(rt, file, *line, *kind, text.0.as_slice())
         }
@@ -195,7 +199,7 @@ pub fn explain<R: Files + AllocGlobal + Eprint>(
         } => explain_conf(rt, file.as_str(), *line, *kind, text.0.as_slice()),
         Status::Trace { file, cause } => explain_trace(rt, file.as_str(), *cause),
         Status::StoreFault { file } => explain_fault(rt, file.as_str()),
-        Status::SinkFault => eprintln!(rt; "standard output did not take the whole history"),
+        Status::SinkFault => eprintln!(rt; "standard output did not take the whole text"),
         Status::Memory => eprintln!(rt;
             "memory ran out: nothing was written, or the history and the first egress files"
         ),

@@ -1,7 +1,9 @@
 //! The program: `replay SCENARIO` runs the scenario of that file, prints its history and writes an
-//! egress trace for each device.
+//! egress trace for each device; `gen SEED LANES PACKETS` runs a scenario that it makes from a seed,
+//! and prints what its packets come to.
 //!
-//! It ends with the number of the run's status, and where that is not 0 it prints one line on standard error.
+//! It ends with the number of the run's status, and where that is not 0 it prints one line on
+//! standard error.
 #![tactic(auto)]
 
 mod bad_conf;

@@ -1,11 +1,9 @@
 -- What a daemon asks, one line after another.
-use Rattle.std.proofs.Common.{◌≡◌, ◌∙◌, ℕ, zero, suc, ◌+◌, ◌≤◌, ◌<◌, ◌==◌, Bool, true, false, cond, inl, inr, Option, List, [], ◌∷◌, ◌++◌, length, take, take_all, get_or, refl, sym, ap, arith, append-nil, subst}
+use Rattle.std.proofs.Common.{◌≡◌, ◌∙◌, ℕ, zero, suc, ◌+◌, ◌≤◌, ◌<◌, ◌==◌, true, cond, Option, List, [], ◌∷◌, ◌++◌, length, take, take_all, get_or, refl, sym, ap, arith, append-nil, subst}
 use Rattle.std.proofs.Math.Seq.{take-suc}
 use Rattle.std.proofs.lemmas.Grind.{flat_map-append}
 use Rattle.std.proofs.lemmas.List.{length-append}
-use Rattle.std.proofs.lemmas.List.Sums.{sum_by-cons}
-use Rattle.std.proofs.lemmas.Bool.Decides.{nat_tests}
-use Rattle.std.specs.Prelude.{flat_map, nat_le, sum_by}
+use Rattle.std.specs.Prelude.{flat_map}
 use Rattle.mr_base.specs.declared.numbers.DaemonNo.{DaemonNo}
 use Rattle.mr_callers.specs.Deeds.{Asks}
 use Rattle.mr_callers.proofs.Doing.{does_none, does_one, does_then}

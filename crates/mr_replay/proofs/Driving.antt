@@ -14,7 +14,6 @@ use Rattle.mr_load.specs.declared.loading.Loaded.{Loaded}
 use Rattle.mr_model.specs.Deeds.{Asked, Received, Ticked}
 use Rattle.mr_model.specs.declared.entry.Entry.{Entry}
 use Rattle.mr_model.specs.declared.entry.Entry.TheVariants.{Call, Slow, Settle, Tick, Recv, EndPhase}
-use Rattle.mr_model.specs.Past.{controls}
 use Rattle.mr_replay.specs.Daemons.{lines_by}
 use Rattle.mr_replay.specs.Running.{CanRun, HasRun, IsFor, IsShort, LacksIn, MachinesFit, PhaseCut, PhaseDriven, with_machines}
 use Rattle.mr_replay.proofs.PacketSums.{packets_within}
@@ -33,7 +32,7 @@ use Rattle.smc_core.specs.Machine.{Machine}
 use Rattle.smc_daemon.specs.Courses.{DrivesFrom, DrivesTo, machine_behind}
 use Rattle.smc_daemon.specs.Deeds.{deeds_in, did, told}
 use Rattle.smc_daemon.specs.Machines.{machine_of}
-use Rattle.smc_daemon.specs.Reaching.{Lacks, Reach, made}
+use Rattle.smc_daemon.specs.Reaching.{Lacks, Reach}
 use Rattle.smc_daemon.specs.Room.{lines_of}
 use Rattle.smc_daemon.proofs.Begun.{drives_all, drives_on}
 use Rattle.smc_daemon.proofs.Runs.{most_of_runs}

@@ -15,7 +15,8 @@ pub mod Meeting
 pub mod Stepping
 pub mod PacketSums
 pub mod Driving
-pub mod Replaying
+pub mod Coming
+pub mod Summing
 pub mod Slowing
 pub mod Egressing
 pub mod Ending

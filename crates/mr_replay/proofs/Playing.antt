@@ -1,5 +1,5 @@
 -- What a daemon with a machine did in a phase, as the history has it then.
-use Rattle.std.proofs.Common.{◌≡◌, ◌∙◌, ℕ, ◌+◌, ◌≤◌, ◌==◌, ◌&&◌, Bool, true, false, cond, Option, Some, None, List, [], ◌∷◌, ◌++◌, refl, sym, ap, ap₂, arith, append-nil, subst}
+use Rattle.std.proofs.Common.{◌≡◌, ◌∙◌, ℕ, ◌==◌, ◌&&◌, Bool, true, false, Option, Some, None, List, [], ◌∷◌, ◌++◌, refl, sym, ap, ap₂, arith, append-nil, subst}
 use Rattle.std.proofs.lemmas.Grind.{flat_map-append}
 use Rattle.std.proofs.lemmas.List.{append_cancel_left}
 use Rattle.std.specs.Prelude.{flat_map, if◌then◌else◌, option_map}
@@ -14,7 +14,7 @@ use Rattle.mr_model.specs.declared.entry.Entry.{Entry}
 use Rattle.mr_model.specs.declared.entry.Entry.TheVariants.{Call, Slow, Settle, Tick, Recv, EndPhase}
 use Rattle.mr_model.specs.declared.flow.Flow.{Flow}
 use Rattle.mr_model.specs.declared.message.MessageId.{MessageId}
-use Rattle.mr_model.specs.Deeds.{Deed, Asked, Received, Ticked}
+use Rattle.mr_model.specs.Deeds.{Deed, Received}
 use Rattle.mr_replay.specs.Daemons.{at_daemon, made_by}
 use Rattle.mr_replay.specs.Turns.{HasSeenOn}
 use Rattle.mr_replay.proofs.Phasing.{none_own}

@@ -1,15 +1,11 @@
 -- Turns of daemons: of one, and of one more behind others.
-use Rattle.std.proofs.Common.{◌≡◌, ◌∙◌, ℕ, zero, suc, ◌+◌, ◌≤◌, ◌<◌, ◌==◌, Bool, true, false, Option, Some, None, Result, Ok, Err, List, [], ◌∷◌, ◌++◌, length, get_or, refl, sym, ap, arith, subst}
-use Rattle.std.proofs.lemmas.Bool.Decides.{nat_tests}
+use Rattle.std.proofs.Common.{◌≡◌, ◌∙◌, ℕ, zero, suc, ◌+◌, ◌<◌, ◌==◌, Bool, true, false, Option, None, Ok, Err, List, [], ◌∷◌, ◌++◌, length, get_or, refl, sym, ap, arith, subst}
 use Rattle.std.proofs.lemmas.List.{length-append}
-use Rattle.std.specs.List.{AllByRecursion}
 use Rattle.std.specs.Prelude.{IfErr, IfOk, IfSome, IsErrOf, IsOk, is_ok}
 use Rattle.mr_model.specs.declared.caller.CallError.{CallError}
 use Rattle.mr_model.specs.declared.caller.CallError.TheVariants as call_error
 use Rattle.mr_model.specs.declared.limits.Limits.{Limits}
-use Rattle.mr_model.specs.Past.{controls}
-use Rattle.mr_replay.specs.Daemons.{FindsEnd, HasAsked, lines_by}
-use Rattle.mr_replay.specs.Turns.{AllTurn, AreNumbered, AreReady, AskTurn, HasSeenOn, IsIdle, IsPlainFor, LinesSuit, PlayTurn, Stop, Turn, first_stop}
+use Rattle.mr_replay.specs.Turns.{AllTurn, AreNumbered, AreReady, HasSeenOn, IsIdle, IsPlainFor, LinesSuit, PlayTurn, Stop, Turn, first_stop}
 use Rattle.mr_router.specs.Callers.{DaemonValue}
 use Rattle.mr_router.specs.Deeds.{controls_left, deeds}
 use Rattle.mr_scenario.specs.declared.scenario.ScriptLine.{ScriptLine}

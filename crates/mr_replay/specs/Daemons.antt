@@ -1,5 +1,5 @@
 -- How far a daemon has come with its lines.
-use Rattle.std.specs.Prelude.{◌≡◌, ℕ, ◌+◌, ◌<◌, ◌⊎◌, List, get_or, length, flat_map}
+use Rattle.std.specs.Prelude.{◌≡◌, ℕ, ◌+◌, ◌<◌, List, get_or, length, flat_map}
 use Rattle.mr_callers.specs.Deeds.{Asks}
 use Rattle.mr_load.specs.Made.{of_daemon}
 use Rattle.mr_model.specs.declared.entry.Entry.{Entry}

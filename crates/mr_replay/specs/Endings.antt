@@ -1,6 +1,7 @@
 -- How a run may end, and what each status says.
-use Rattle.std.specs.Prelude.{◌≡◌, ◌⊎◌, ◌≤◌, ◌<◌, ℕ, ◌&&◌, Bool, true, false, not, nat_lt, nat_le, if◌then◌else◌, Option, Some, None, Result, Ok, Err, Contains, List, [], ◌∷◌, length, bytes_eq, codes, sum, take}
+use Rattle.std.specs.Prelude.{◌≡◌, ◌⊎◌, ◌≤◌, ◌<◌, ℕ, Bool, true, false, Option, Some, Result, Ok, Err, Contains, List, sum}
 use Rattle.mr_base.specs.Outside.{Files}
+use Rattle.mr_command.specs.Commands.{Asked, Gen, Replay}
 use Rattle.mr_model.specs.declared.entry.Entry.{Entry}
 use Rattle.mr_model.specs.Legal.{IsLegal}
 use Rattle.mr_scenario.specs.declared.scenario.Scenario.{Scenario}
@@ -21,14 +22,16 @@ use Rattle.mr_load.specs.Refusals.{files_read}
 use Rattle.mr_load.specs.Told.{IsTold}
 use Rattle.mr_tail.specs.Text.{history_text}
 
--- a word that may name a file: 1 to 255 bytes, which do not begin with `out-`
-abbrev pub is_file_word : List ℕ → Bool
-is_file_word w = nat_lt 0 (length w) && nat_le (length w) 255 && not (bytes_eq (take 4 w) (codes "out-"))
+-- The words are `replay SCENARIO`: so for its file.
+abbrev pub IfReplay : Option Asked → (List ℕ → Type 0) → Type 0
+IfReplay (Some (Replay file)) P = P file
+IfReplay _ P = Unit {0}
 
--- the file that the words ask to replay; none where they are not `replay SCENARIO`
-abbrev pub file_asked : List (List ℕ) → Option (List ℕ)
-file_asked (command ∷ file ∷ []) = if bytes_eq command (codes "replay") && is_file_word file then Some file else None
-file_asked _ = None
+-- The words are no form of a command that is run.
+abbrev pub is_usage : Option Asked → Bool
+is_usage (Some (Replay file)) = false
+is_usage (Some (Gen seed lanes packets)) = false
+is_usage _ = true
 
 -- The bytes of the file spell a scenario whose files are accepted, and the least that its daemons make has room. The history is a
 -- legal one of it, and has what the scenario asks.
@@ -41,46 +44,37 @@ pub record RunsTo (files : Files) (file : List ℕ) (scenario : Scenario) (histo
   pub legal : IsLegal (run_limits files scenario) history
   pub made : Made files scenario history
 
--- The words ask for this file, and these are the files of the store.
-pub record IsAsked (words : List (List ℕ)) (told : Option Files) (files : Files) (file : List ℕ) : Type 0 where
-  pub asked : file_asked words ≡ Some file
-  pub told_is : IsTold told files
-
--- The file asked for runs to one history, and so much is written of its text and of its egress files.
-pub record Replays (words : List (List ℕ)) (told : Option Files) (IsWritten : List ℕ → List EgressFile → Type 0) : Type 0 where
+-- The file runs to one history, and so much is written of its text and of its egress files.
+pub record Replays (file : List ℕ) (told : Option Files) (IsWritten : List ℕ → List EgressFile → Type 0) : Type 0 where
   pub files : Files
-  pub file : List ℕ
   pub scenario : Scenario
   pub history : List Entry
-  pub asked : IsAsked words told files file
+  pub told_is : IsTold told files
   pub run : RunsTo files file scenario history
   pub written : IsWritten (history_text files scenario history) (egress_files files scenario history)
 
--- The file asked for comes to this status.
-pub record ComesTo (words : List (List ℕ)) (told : Option Files) (s : Status) : Type 0 where
+-- The file comes to this status.
+pub record ComesTo (file : List ℕ) (told : Option Files) (s : Status) : Type 0 where
   pub files : Files
-  pub file : List ℕ
-  pub asked : IsAsked words told files file
+  pub told_is : IsTold told files
   pub outcome : loaded files file ≡ Err s
 
 -- How many packets a scenario has in all its lanes.
 abbrev pub packets_in : Files → Scenario → ℕ
 packets_in files s = sum (run_limits files s).packets
 
--- The file asked for spells a scenario whose daemons make more control entries at most than it allows.
-pub record IsFull (words : List (List ℕ)) (told : Option Files) : Type 0 where
+-- The file spells a scenario whose daemons make more control entries at most than it allows.
+pub record IsFull (file : List ℕ) (told : Option Files) : Type 0 where
   pub files : Files
-  pub file : List ℕ
   pub scenario : Scenario
-  pub asked : IsAsked words told files file
+  pub told_is : IsTold told files
   pub accepted : loaded files file ≡ Ok scenario
   pub short : scenario.limits.controls < most files scenario (packets_in files scenario)
 
--- A file of this name is one that is to be read for the file asked for.
-pub record IsToRead (words : List (List ℕ)) (told : Option Files) (name : List ℕ) : Type 0 where
+-- A file of this name is one that is to be read for the scenario's file.
+pub record IsToRead (file : List ℕ) (told : Option Files) (name : List ℕ) : Type 0 where
   pub files : Files
-  pub file : List ℕ
-  pub asked : IsAsked words told files file
+  pub told_is : IsTold told files
   pub read : Contains (files_read files file) name
 
 -- the statuses with which nothing is ever written
@@ -139,7 +133,7 @@ abbrev pub IfStoreFault : Status → (List ℕ → Type 0) → Type 0
 IfStoreFault (status.StoreFault file) P = P file
 IfStoreFault _ P = Unit {0}
 
--- the file asked for spells a scenario of which this is true
+-- the file spells a scenario of which this is true
 abbrev pub IfLoaded : Result Scenario Status → (Scenario → Type 0) → Type 0
 IfLoaded (Ok s) P = P s
 IfLoaded (Err s) P = ⊥

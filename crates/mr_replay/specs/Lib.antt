@@ -1,5 +1,6 @@
 pub mod Egress
 pub mod Endings
+pub mod Generating
 pub mod Lanes
 pub mod Daemons
 pub mod Turns

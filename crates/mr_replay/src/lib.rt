@@ -1,16 +1,16 @@
-//! The top call: a scenario is read, run by its lanes and daemons on threads, and written as its
-//! history and its egress files.
+//! The top call: a scenario is read or made from a seed, run by its lanes and daemons on threads, and
+//! written as its history and its egress files, or summed up.
 #![tactic(auto)]
 
 mod asking;
 mod calling;
 mod daemons;
 mod egress;
+mod generating;
 mod outputs;
+mod replaying;
 mod running;
 mod sending;
-#[cfg(test)]
-mod tests;
 mod top;
 mod turns;
 mod writing;

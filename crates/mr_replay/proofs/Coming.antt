@@ -1,4 +1,4 @@
--- What the file that is asked for comes to.
+-- What the file that is replayed comes to.
 use Rattle.std.proofs.Common.{◌≡◌, ◌≤◌, ◌<◌, ◌+◌, ℕ, suc, Bool, false, Option, Some, None, Result, Ok, Err, List, [], ◌++◌, length, refl, sym, ap, ◌∙◌, arith, subst, inl, inr}
 use Rattle.std.specs.Option.{option_map_or}
 use Rattle.std.specs.Prelude.{slice_get, sum_by}
@@ -20,7 +20,7 @@ use Rattle.mr_load.specs.declared.status.Status.{Status}
 use Rattle.mr_load.specs.Refusals.{files_read}
 use Rattle.mr_load.specs.declared.status.Status.TheVariants as status
 use Rattle.mr_replay.specs.Egress.{EgressFile, HasWritten, IsOutput, Writing, egress_by, egress_file, egress_files, egress_names, names_of, text_by}
-use Rattle.mr_replay.specs.Endings.{CallsFor, EndsBy, IfLoaded, IfStoreFault, ReadsAndWrites, ReadsFor, RunsTo, Replays, file_asked}
+use Rattle.mr_replay.specs.Endings.{CallsFor, EndsBy, IfLoaded, IfStoreFault, ReadsAndWrites, ReadsFor, RunsTo, Replays}
 use Rattle.mr_replay.specs.Running.{with_machines}
 use Rattle.smc_core.specs.Machine.{Machine}
 use Rattle.mr_model.specs.declared.entry.Entry.{Entry}
@@ -106,9 +106,8 @@ egress_given files l k i limits =
     let run : k.limits ≡ run_limits files l.scenario = limits ∙ i.limits in
     rw (i.lanes, run) refl
 
--- The file asked for was loaded, and a machine has run it.
-pub record HasRun (words : List (List ℕ)) (told : Option Files) (files : Files) (file : List ℕ) (l : Loaded) (k : KernelValue) : Type 0 where
-  pub asked : file_asked words ≡ Some file
+-- The file was loaded, and a machine has run it.
+pub record HasRun (told : Option Files) (files : Files) (file : List ℕ) (l : Loaded) (k : KernelValue) : Type 0 where
   pub told_is : IsTold told files
   pub loads : loaded files file ≡ Ok l.scenario
   pub is : IsLoaded files l
@@ -116,16 +115,15 @@ pub record HasRun (words : List (List ℕ)) (told : Option Files) (files : Files
   pub legal : IsLegal k.limits k.history
   pub made : Made files l.scenario k.history
 
-pub replays : (words : List (List ℕ)) (told : Option Files) (files : Files) (file : List ℕ) (l : Loaded) (k : KernelValue) (IsWritten : List ℕ → List EgressFile → Type 0)
-    → HasRun words told files file l k → IsWritten (text_by l k) (egress_by l k) → Replays words told IsWritten
-replays words told files file l k IsWritten r written =
+pub replays : (told : Option Files) (files : Files) (file : List ℕ) (l : Loaded) (k : KernelValue) (IsWritten : List ℕ → List EgressFile → Type 0)
+    → HasRun told files file l k → IsWritten (text_by l k) (egress_by l k) → Replays file told IsWritten
+replays told files file l k IsWritten r written =
     let run : k.limits ≡ run_limits files l.scenario = r.limits ∙ r.is.limits in
     record {
       files = files;
-      file = file;
       scenario = l.scenario;
       history = k.history;
-      asked = record { asked = r.asked; told_is = r.told_is };
+      told_is = r.told_is;
       run = runs_to files file l.scenario k.history r.loads r.is.fits (subst (λ (x : Limits). IsLegal x k.history) run r.legal) r.made;
       written = subst (λ (t : List ℕ). IsWritten t (egress_files files l.scenario k.history)) (text_given files l k r.is r.limits)
           (subst (IsWritten (text_by l k)) (egress_given files l k r.is r.limits) written);
@@ -188,13 +186,6 @@ calls_read told file (status.Trace name cause) old new never r = r
 calls_read told file status.ControlFull old new never r = r
 calls_read told file (status.Conf name line kind text) old new never r = r
 
-some_same : (a b : List ℕ) → ◌≡◌ {A = Option (List ℕ)} (Some a) (Some b) → a ≡ b
-some_same a b e = cc
-
-pub asked_calls : (words : List (List ℕ)) (told : Option Files) (asked : List ℕ) (s : Status) (old new : List StoreCall) → file_asked words ≡ Some asked → CallsFor told asked s old new
-    → (file : List ℕ) → file_asked words ≡ Some file → CallsFor told file s old new
-asked_calls words told asked s old new e r file f = subst (λ (name : List ℕ). CallsFor told name s old new) (some_same asked file (sym e ∙ f)) r
-
 -- where the outside did not fail, a run that loaded and wrote ends as it should
 ends : (files : Files) (s : Status) (t : Scenario) (outcome : Result Scenario Status) → IsOutput s → outcome ≡ Ok t → least files t ≤ t.limits.controls → (s ≡ status.SinkFault → ⊥) → IfStoreFault s (λ _. ⊥) → EndsBy files s outcome
 ends files status.Good t outcome o e room sink store = subst (λ (r : Result Scenario Status). IfLoaded r (λ x. least files x ≤ x.limits.controls)) (sym e) room
@@ -216,12 +207,11 @@ pub with_its_own : (files : Files) (l : Loaded) (ms : List (Option Machine)) →
 with_its_own files l ms same i = subst (λ (xs : List (Option Machine)). IsLoaded files (with_machines l xs)) (sym same) i
 
 -- over a store that tells, what was loaded decides how a run ends
-pub ends_written : (words : List (List ℕ)) (told : Option Files) (files its : Files) (file name : List ℕ) (l : Loaded) (k : KernelValue) (s : Status) → HasRun words told files file l k → file_asked words ≡ Some name → told ≡ Some its
-    → IsOutput s → (s ≡ status.SinkFault → ⊥) → IfStoreFault s (λ _. ⊥) → EndsBy its s (loaded its name)
-ends_written words told files its file name l k s r asked tells o sink store =
+pub ends_written : (told : Option Files) (files its : Files) (file : List ℕ) (l : Loaded) (k : KernelValue) (s : Status) → HasRun told files file l k → told ≡ Some its
+    → IsOutput s → (s ≡ status.SinkFault → ⊥) → IfStoreFault s (λ _. ⊥) → EndsBy its s (loaded its file)
+ends_written told files its file l k s r tells o sink store =
     let same : its ≡ files = its_files told files its r.told_is tells in
-    let named : file ≡ name = some_same file name (sym r.asked ∙ asked) in
     let run : k.limits ≡ run_limits files l.scenario = r.limits ∙ r.is.limits in
     let room : least files l.scenario ≤ l.scenario.limits.controls = least_fits files l.scenario k.history r.is.fits (subst (λ (x : Limits). IsLegal x k.history) run r.legal) r.made in
-    subst (λ (f : Files). EndsBy f s (loaded f name)) (sym same)
-    (ends files s l.scenario (loaded files name) o (subst (λ (w : List ℕ). loaded files w ≡ Ok l.scenario) named r.loads) room sink store)
+    subst (λ (f : Files). EndsBy f s (loaded f file)) (sym same)
+    (ends files s l.scenario (loaded files file) o r.loads room sink store)
