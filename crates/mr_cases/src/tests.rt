@@ -20,7 +20,8 @@ pub fn store_of(alloc: Global, text: &str) -> Result<MemStore, AllocError> {
     Ok(MemStore::with(alloc, vec![in alloc; file]?, Vec::new(alloc)))
 }
 
-/// A run of words over a store and a sink, with a door that has no links and a clock that stands still.
+/// A run of words over a store and a sink, with a door that has no links and a clock that stands
+/// still.
 pub fn ran<R: AllocGlobal + Wait + Threads + Sync, S: Store, K: Sink>(
     rt: &R,
     words: &str,
@@ -221,7 +222,8 @@ fn entries_and_vifs(rt: HostRuntime) -> Result<(), Fail> {
             "phase\ndaemon 1 addvif 31 8 @1\n",
             "5 phase\n6 call 1 addvif 31 8 @1 = ok\n7 phase\nroute 4 10.0.0.9 239.1.1.1 0 0 0 0\nvif 0 eth0 0 0 0 0\nvif 1 eth1 0 0 0 0\nvif 31 eth0 0 0 0 0\nend\n",
         ),
-        // By address, by an address that is a number, by a number that is an address, and the register vif.
+        // By address, by an address that is a number, by a number that is an address, and the
+        // register vif.
         (
             "daemon 1 addvif 9 0 10.0.1.1\ndaemon 1 addvif 8 8 0.0.0.2\ndaemon 1 addvif 7 0 @167772161\ndaemon 1 addvif 5 4 0.0.0.0\n",
             "5 call 1 addvif 9 0 10.0.1.1 = ok\n6 call 1 addvif 8 8 @2 = ok\n7 call 1 addvif 7 0 10.0.0.1 = ok\n8 call 1 addvif 5 4 0.0.0.0 = ok\n9 phase\nroute 4 10.0.0.9 239.1.1.1 0 0 0 0\nvif 0 eth0 0 0 0 0\nvif 1 eth1 0 0 0 0\nvif 5 pimreg 0 0 0 0\nvif 7 eth0 0 0 0 0\nvif 8 eth1 0 0 0 0\nvif 9 eth1 0 0 0 0\nend\n",

@@ -53,8 +53,8 @@ fn one_copy(rt: HostRuntime) -> Result<(), Fail> {
     check_file(&rt, &store, "out-eth1.pcap", &[&SENT])
 }
 
-/// A packet that waited leaves where it is released, behind those before; two vifs on one device give
-/// two copies, and the register vif gives none.
+/// A packet that waited leaves where it is released, behind those before; two vifs on one device
+/// give two copies, and the register vif gives none.
 #[test]
 fn copies_in_order(rt: HostRuntime) -> Result<(), Fail> {
     let alloc = rt.alloc();

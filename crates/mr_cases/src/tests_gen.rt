@@ -1,8 +1,8 @@
 use crate::tests::replayed;
 use std::test::Fail;
 
-/// The lane's generator is seeded with 8, and its first word is 24 above a multiple of 64: the packet
-/// meets the (S,G) entry of number 6 + 24 and goes out on three vifs.
+/// The lane's generator is seeded with 8, and its first word is 24 above a multiple of 64: the
+/// packet meets the (S,G) entry of number 6 + 24 and goes out on three vifs.
 const ONE_PACKET: &str = "\
 packets 1
 fast 0

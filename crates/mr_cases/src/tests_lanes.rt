@@ -5,7 +5,8 @@ use mr_lines::Skip;
 use mr_load::load;
 use std::test::Fail;
 
-/// Three lanes, the second of which has no items, and two admin daemons around a plain one, with lines in no order.
+/// Three lanes, the second of which has no items, and two admin daemons around a plain one, with
+/// lines in no order.
 const SEVERAL: &str = "\
 scenario 1
 lanes 3
@@ -29,8 +30,8 @@ lane 1 pkt eth0 4500001c000100000211bec50a000009ef01010103e803e900080000
 daemon 2 addmfc 10.0.0.9 239.1.1.1 0 1:2
 ";
 
-/// What each of its callers did, in its order, as numbers of tests_threads. Between the callers of a
-/// phase any order is legal.
+/// What each of its callers did, in its order, as numbers of tests_threads. Between the callers of
+/// a phase any order is legal.
 const SEVERAL_PARTS: [(u32, &[u32]); 6] = [
     (0, &[0, 0]),
     (1, &[1, 3]),
@@ -45,7 +46,8 @@ fn several_lanes_and_daemons(rt: HostRuntime) -> Result<(), Fail> {
     check_parts(&rt, SEVERAL, &SEVERAL_PARTS)
 }
 
-/// Heads that are refused, each for the cause of its place here, with an accepted one behind the fourth.
+/// Heads that are refused, each for the cause of its place here, with an accepted one behind the
+/// fourth.
 const REFUSED: &str = "\
 phase
 lane 1 pkt eth0 4500001c000100000211bec50a000009ef0101

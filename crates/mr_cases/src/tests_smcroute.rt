@@ -54,8 +54,8 @@ fn trace(alloc: Global) -> Result<Vec<u8>, AllocError> {
     Ok(file)
 }
 
-/// A run of the scenario `f`, beside which a configuration and a trace lie: its status, and what was
-/// taken.
+/// A run of the scenario `f`, beside which a configuration and a trace lie: its status, and what
+/// was taken.
 fn driven<R: AllocGlobal + Wait + Threads + Sync>(
     rt: &R,
     text: &str,

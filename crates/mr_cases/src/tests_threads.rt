@@ -15,8 +15,8 @@ use std::thread::Threads;
 /// How often a lane that is held looks for the other.
 const MOST_TURNS: u32 = 10_000_000;
 
-/// A gate that holds each of two lanes until the other has come to it. It is marked where a lane has
-/// waited for too long.
+/// A gate that holds each of two lanes until the other has come to it. It is marked where a lane
+/// has waited for too long.
 #[derive(Drop)]
 struct Meeting {
     first: AtomicBool,
@@ -146,8 +146,8 @@ const EACH: [(u32, &[u32]); 8] = [
     (19, &[1, 0, 1]),
 ];
 
-/// Who made an entry, and a number of what it did: the packet's, the milliseconds', the vif's, or that
-/// of the switch.
+/// Who made an entry, and a number of what it did: the packet's, the milliseconds', the vif's, or
+/// that of the switch.
 fn deed(entry: &Entry) -> (u32, u32) {
     match entry {
         Entry::Slow { lane, index, .. } => (lane.0, *index),
@@ -172,8 +172,8 @@ fn asked(request: &Request) -> u32 {
     }
 }
 
-/// Checks that a scenario gives a history in which each caller's part is in order, whatever the order
-/// of the callers.
+/// Checks that a scenario gives a history in which each caller's part is in order, whatever the
+/// order of the callers.
 pub fn check_parts<R: AllocGlobal + Abort + Wait + Threads + Sync>(
     rt: &R,
     text: &str,

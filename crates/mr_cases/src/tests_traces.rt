@@ -13,7 +13,8 @@ const PACKET: [u8; 28] = [
     0, 8, 0, 0,
 ];
 
-/// The magic numbers as they stand in a file: microseconds and nanoseconds, little-endian and big-endian.
+/// The magic numbers as they stand in a file: microseconds and nanoseconds, little-endian and
+/// big-endian.
 const MICROS: [u8; 4] = [0xd4, 0xc3, 0xb2, 0xa1];
 
 const NANOS: [u8; 4] = [0x4d, 0x3c, 0xb2, 0xa1];
@@ -112,7 +113,8 @@ fn each_kind_of_trace(rt: HostRuntime) -> Result<(), Fail> {
     Ok(())
 }
 
-/// A request of ARP, a packet with six bytes of padding, and a head that is cut, named by two lines.
+/// A request of ARP, a packet with six bytes of padding, and a head that is cut, named by two
+/// lines.
 const TWICE: &str = "\
 history 1
 skip 1 1 0

@@ -1,15 +1,13 @@
 //! What the words of the command line ask for.
 
-ghost use Rattle.std.specs.Prelude.{◌≡◌, ◌≤◌, ◌&&◌, IfSome, SomeIff, fold, map, option_map};
-ghost use Rattle.std.specs.Prelude.{string_bytes};
+ghost use Rattle.std.specs.Prelude.{◌≡◌, ◌≤◌, ◌&&◌, IfSome, map, option_map, string_bytes};
 ghost use Rattle.mr_base.specs.declared.limits.TheConstants.{MOST_ITEMS, MOST_LANES};
 ghost use Rattle.mr_command.specs.Commands.{Check, IsInRange, Replay, asked_by, command_of, gen_of};
 ghost use Rattle.mr_command.specs.Commands.{if_so, is_file_word, number_in};
-ghost use Rattle.mr_words.specs.Numbers.{digit_on, is_digit, is_numeral, leads_well, number_of};
-ghost use Rattle.std.specs.List.{list_all};
+ghost use Rattle.mr_words.specs.Numbers.{number_of};
 
 use mr_base::{MOST_ITEMS, MOST_LANES};
-use mr_words::is_digit;
+use mr_words::long_number_of;
 
 /// The greatest seed of `gen`.
 pub const MOST_SEED: u64 = 9_223_372_036_854_775_807;
@@ -36,71 +34,12 @@ fn is_file_word(word: &str) -> bool
     !bytes.is_empty() && bytes.len() <= 255 && !bytes.starts_with(b"out-")
 }
 
-/// Whether a word has one byte, or several of which the first is no zero.
-fn leads_well(word: &[u8]) -> bool
-    ensures { result ≡ leads_well word.now }
-{
-    word.len() == 1 || word.len() > 1 && word[0] != b'0'
-}
-
-fn are_digits(word: &[u8]) -> bool
-    ensures { result ≡ list_all is_digit word.now }
-{
-    word.iter().all(|b| is_digit(*b))
-}
-
-/// Whether a word is digits, with no zero in front of others.
-fn is_numeral(word: &[u8]) -> bool
-    ensures { result ≡ is_numeral word.now }
-{
-    leads_well(word) && are_digits(word)
-}
-
-/// A number with one more digit, if it is at most `most`.
-fn grown(value: u64, digit: u8, most: u64) -> Option<u64>
-    ensures { SomeIff result (digit_on value digit ≤ most) (digit_on value digit) }
-{
-    let next = u128::from(value) * 10 + u128::from(digit.saturating_sub(b'0'));
-    if next <= u128::from(most) {
-        Some(next as u64)
-    } else {
-        None
-    }
-}
-
-/// The number that digits spell, if it is at most `most`.
-fn value_of(word: &[u8], most: u64) -> Option<u64>
-    ensures { SomeIff result (fold digit_on 0 word.now ≤ most) (fold digit_on 0 word.now) }
-{
-    let mut value = 0u64;
-    for b in word {
-        match grown(value, *b, most) {
-            Some(next) => value = next,
-            None => return None,
-        }
-    }
-    Some(value)
-}
-
-/// The number that a word spells, if it is at most `most`.
-fn number_of(word: &str, most: u64) -> Option<u64>
-    ensures value { result ≡ number_of most word.now }
-    ensures within { IfSome result (λ n. n ≤ most) }
-{
-    let bytes = word.as_bytes();
-    if is_numeral(bytes) {
-        value_of(bytes, most)
-    } else {
-        None
-    }
-}
-
 /// The number that a word spells, if it is 1 to `most`.
 fn count_of(word: &str, most: u32) -> Option<u32>
     ensures value { result ≡ number_in 1 most word.now }
     ensures within { IfSome result (λ n. (1 ≤ n) × (n ≤ most)) }
 {
-    match number_of(word, u64::from(most)) {
+    match long_number_of(word.as_bytes(), u64::from(most)) {
         Some(0) | None => None,
         Some(n) => Some(n as u32),
     }
@@ -112,7 +51,7 @@ fn gen_of<'a>(seed: &str, lanes: &str, packets: &str) -> Option<Command<'a>>
         (number_in 1 MOST_LANES lanes.now) (number_in 1 MOST_ITEMS packets.now) }
     ensures fits { IfSome result IsInRange }
 {
-    let seed = number_of(seed, MOST_SEED)?;
+    let seed = long_number_of(seed.as_bytes(), MOST_SEED)?;
     let lanes = count_of(lanes, MOST_LANES)?;
     let packets = count_of(packets, MOST_ITEMS as u32)?;
     if u64::from(lanes) * u64::from(packets) <= MOST_ITEMS as u64 {

@@ -1,4 +1,5 @@
-ghost use Rattle.std.specs.Prelude.{◌≡◌, ◌≤◌, [], ◌∷◌, ◌++◌, true, false, None, IfOk, IfSome, IsErrOf, length};
+ghost use Rattle.std.specs.Prelude.{◌≡◌, ◌≤◌, [], ◌∷◌, ◌++◌, true, false, None, IfOk, IfSome};
+ghost use Rattle.std.specs.Prelude.{IsErrOf, length};
 ghost use Rattle.mr_base.specs.Outside.{Rose, HasFile, AllStay, is_failed_read};
 ghost use Rattle.mr_base.specs.declared.limits.TheConstants.{LONGEST_FILE};
 ghost use Rattle.mr_base.specs.declared.read_error.ReadError.TheVariants as read_error;

@@ -1,6 +1,6 @@
 //! The program: `replay SCENARIO` runs the scenario of that file, prints its history and writes an
-//! egress trace for each device; `gen SEED LANES PACKETS` runs a scenario that it makes from a seed,
-//! and prints what its packets come to.
+//! egress trace for each device; `gen SEED LANES PACKETS` runs a scenario that it makes from a
+//! seed, and prints what its packets come to.
 //!
 //! It ends with the number of the run's status, and where that is not 0 it prints one line on
 //! standard error.
@@ -36,7 +36,8 @@ fn words(rt: &(impl Env + AllocGlobal)) -> io::Result<Vec<String>> {
     Ok(words)
 }
 
-/// Runs the words over the folder in which the program was called. The door has no links, and the clock stands still.
+/// Runs the words over the folder in which the program was called. The door has no links, and the
+/// clock stands still.
 fn run_here<R: Files + AllocGlobal + Print + Wait + Threads + Sync>(
     rt: &R,
     words: &[String],
@@ -60,7 +61,8 @@ fn run_here<R: Files + AllocGlobal + Print + Wait + Threads + Sync>(
     ))
 }
 
-/// The status of a run that could not begin: words that are no text are no form, and else memory ran out.
+/// The status of a run that could not begin: words that are no text are no form, and else memory
+/// ran out.
 fn status_of(e: &io::Error) -> Status {
     if e.kind() == io::ErrorKind::InvalidData {
         Status::Usage

@@ -12,7 +12,7 @@ pub fn digit(text: &[u8]) -> Option<(u32, &[u8])>
     ensures { MatchOption result (digits_of text.now ≡ []) (λ x.
         (x.0 ≤ 9) × (text.now ≡ (48 + x.0) ∷ x.1.now)) }
 {
-    if text.len() == 0 || !is_digit(text[0]) {
+    if text.is_empty() || !is_digit(text[0]) {
         return None;
     }
     Some((u32::from(text[0] - b'0'), behind_first(text)))

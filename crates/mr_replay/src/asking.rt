@@ -3,7 +3,8 @@
 ghost use Rattle.std.specs.Prelude.{◌≡◌, OnOk, OnErr, length};
 ghost use Rattle.std.specs.List.{AllByRecursion};
 ghost use Rattle.mr_load.specs.Made.{of_daemon};
-ghost use Rattle.mr_replay.specs.Daemons.{FindsEnd, FindsFull, HasAsked, IsPlain, IsPlainLine, lines_by};
+ghost use Rattle.mr_replay.specs.Daemons.{FindsEnd, FindsFull, HasAsked, IsPlain, IsPlainLine};
+ghost use Rattle.mr_replay.specs.Daemons.{lines_by};
 
 use crate::calling::ask;
 use mr_base::ControlFull;

@@ -14,8 +14,8 @@ use mr_scenario::Script;
 use std::alloc::Global;
 use std::sync::Wait;
 
-/// The option that asks for another table (MRT_TABLE of mroute.h), which a machine of one table does
-/// not know.
+/// The option that asks for another table (MRT_TABLE of mroute.h), which a machine of one table
+/// does not know.
 const MRT_TABLE: u16 = 209;
 
 /// A daemon makes a call.

@@ -1,5 +1,5 @@
-//! The top call: a scenario is read or made from a seed, run by its lanes and daemons on threads, and
-//! written as its history and its egress files, or summed up.
+//! The top call: a scenario is read or made from a seed, run by its lanes and daemons on threads,
+//! and written as its history and its egress files, or summed up.
 #![tactic(auto)]
 
 mod asking;

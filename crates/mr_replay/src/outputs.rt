@@ -59,8 +59,8 @@ fn write_history<K: Sink>(alloc: Global, loaded: &Loaded, kernel: &Kernel, out: 
     }
 }
 
-/// Writes what a machine that has run a loaded scenario gives: the text of its history, and then the
-/// egress file of each device.
+/// Writes what a machine that has run a loaded scenario gives: the text of its history, and then
+/// the egress file of each device.
 pub(crate) fn write_outputs<S: Store, K: Sink>(
     alloc: Global,
     loaded: &Loaded,

@@ -20,8 +20,8 @@ use std::mem;
 use std::sync::Wait;
 use std::thread::Threads;
 
-/// Reads the scenario of a name from the store, runs it, writes the text of its history to `out`, and
-/// then for each device, in their order, its egress trace to the store.
+/// Reads the scenario of a name from the store, runs it, writes the text of its history to `out`,
+/// and then for each device, in their order, its egress trace to the store.
 pub(crate) fn replay<R: Wait + Threads + Sync, S: Store, K: Sink, G: Gate + Sync>(
     rt: &R,
     alloc: Global,

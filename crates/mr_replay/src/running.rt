@@ -7,7 +7,8 @@ ghost use Rattle.mr_base.specs.Outside.{Files};
 ghost use Rattle.mr_load.specs.Loads.{IsLoaded};
 ghost use Rattle.mr_load.specs.Made.{Made};
 ghost use Rattle.mr_model.specs.declared.caller.CallError.TheVariants as call_error;
-ghost use Rattle.mr_replay.specs.Lanes.{AllSend, AreLanes, HadTurn, HasTurn, LanesFit, LanesReady, lane_at};
+ghost use Rattle.mr_replay.specs.Lanes.{AllSend, AreLanes, HadTurn, HasTurn, LanesFit, LanesReady};
+ghost use Rattle.mr_replay.specs.Lanes.{lane_at};
 ghost use Rattle.mr_replay.specs.Running.{CanRun, HasRun, IsShort, MachinesFit, PhaseCut};
 ghost use Rattle.mr_replay.specs.Running.{PhaseDriven, with_machines};
 ghost use Rattle.mr_replay.specs.Turns.{AllTurn, AreNumbered, AreReady, LinesSuit};
@@ -273,8 +274,8 @@ where
 ///
 /// # Errors
 ///
-/// [`CallError::ControlFull`] where the history has no room for a control entry that a daemon needs,
-/// and [`CallError::Memory`] where memory runs out.
+/// [`CallError::ControlFull`] where the history has no room for a control entry that a daemon
+/// needs, and [`CallError::Memory`] where memory runs out.
 pub fn run_loaded<R: Wait + Threads + Sync, G: Gate + Sync>(
     rt: &R,
     alloc: Global,

@@ -2,7 +2,8 @@
 
 ghost use Rattle.std.specs.Prelude.{◌≡◌, ◌<◌, ◌+◌, length, map};
 ghost use Rattle.mr_load.specs.Dues.{sent_of};
-ghost use Rattle.mr_replay.specs.Lanes.{HasSent, Hands, IsReady, LaneFits, due_in, next_due, own_of};
+ghost use Rattle.mr_replay.specs.Lanes.{HasSent, Hands, IsReady, LaneFits, due_in, next_due};
+ghost use Rattle.mr_replay.specs.Lanes.{own_of};
 
 use mr_base::Gate;
 use mr_book::BookName;

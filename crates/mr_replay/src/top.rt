@@ -23,8 +23,8 @@ use std::thread::Threads;
 
 /// Runs the command that `words` (those after the program's name) spell.
 ///
-/// `replay SCENARIO` reads the scenario of that name from the store, runs it, writes the text of its
-/// history to `out`, and then for each device, in their order, its egress trace to the store as
+/// `replay SCENARIO` reads the scenario of that name from the store, runs it, writes the text of
+/// its history to `out`, and then for each device, in their order, its egress trace to the store as
 /// `out-NAME.pcap`. `gen SEED LANES PACKETS` makes a scenario from the seed, in which so many lanes
 /// send so many packets each, runs it, and writes the summary of its history to `out`; no file is
 /// read or written. Other words are `Usage`, for now also those of `check`.
@@ -53,8 +53,9 @@ pub fn run<R: Wait + Threads + Sync, S: Store, K: Sink, D: Door, C: Clock, G: Ga
     // The words are no form of `replay` and none of `gen`.
     ensures usage { (result ≡ status.Usage)
         ↔ (is_usage (command_of (map string_bytes words.now)) ≡ true) }
-    // The sink took the text of a legal history of the scenario that the file spells, with what that
-    // asks in its order, and the store has the egress files of that history and no other change.
+    // The sink took the text of a legal history of the scenario that the file spells, with what
+    // that asks in its order, and the store has the egress files of that history and no other
+    // change.
     ensures good { IfReplay (command_of (map string_bytes words.now)) (λ file.
         result ≡ status.Good → Replays file (S.told store.old) (λ text egress.
         Takes (K.taken out.old) text (K.taken out.new)

@@ -109,7 +109,7 @@ fn take_line(alloc: Global, line: u32, state: &mut State, bytes: &[u8]) -> Resul
 fn whole(line: u32, state: State, bytes: &[u8]) -> Result<HistoryText, TextError>
     ensures { Gives result (parts_result (last_line line state bytes.now)) }
 {
-    if state.ended && bytes.len() == 0 {
+    if state.ended && bytes.is_empty() {
         Ok(HistoryText {
             skips: state.skips,
             entries: state.entries,

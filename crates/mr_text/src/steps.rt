@@ -27,9 +27,9 @@ fn is_inside(state: &State) -> bool
 fn has_no_tail(state: &State) -> bool
     ensures { result ≡ has_no_tail state.now }
 {
-    state.routes.0.as_slice().len() == 0
-        && state.vifs.0.as_slice().len() == 0
-        && state.fates.0.as_slice().len() == 0
+    state.routes.0.as_slice().is_empty()
+        && state.vifs.0.as_slice().is_empty()
+        && state.fates.0.as_slice().is_empty()
 }
 
 /// Whether this is the number of the next entry, and entries may come.
@@ -137,7 +137,7 @@ fn skip(line: u32, state: &mut State, skip: Skip) -> Result<(), TextError>
     ensures { Steps result line state.new (skipped state.old skip) }
 {
     if !(is_inside(state)
-        && state.lines.0.as_slice().len() == 0
+        && state.lines.0.as_slice().is_empty()
         && has_no_tail(state)
         && skip_follows(state.skips.0.as_slice(), &skip))
     {
@@ -153,8 +153,8 @@ fn route(line: u32, state: &mut State, route: RouteLine) -> Result<(), TextError
 {
     close(line, state)?;
     if !(is_inside(state)
-        && state.vifs.0.as_slice().len() == 0
-        && state.fates.0.as_slice().len() == 0
+        && state.vifs.0.as_slice().is_empty()
+        && state.fates.0.as_slice().is_empty()
         && route_follows(state.routes.0.as_slice(), &route))
     {
         return Err(TextError::Line(line));
@@ -169,7 +169,7 @@ fn vif(line: u32, state: &mut State, vif: VifLine) -> Result<(), TextError>
 {
     close(line, state)?;
     if !(is_inside(state)
-        && state.fates.0.as_slice().len() == 0
+        && state.fates.0.as_slice().is_empty()
         && vif_follows(state.vifs.0.as_slice(), &vif))
     {
         return Err(TextError::Line(line));
