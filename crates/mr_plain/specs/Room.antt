@@ -6,6 +6,7 @@ use Rattle.mr_model.specs.declared.entry.Entry.TheVariants.{Call, Slow, Settle}
 use Rattle.mr_model.specs.declared.outcome.Outcome.TheVariants.{Parked}
 use Rattle.mr_model.specs.declared.reply.Reply.TheVariants.{Good}
 use Rattle.mr_model.specs.WaitingList.{is_awaiting}
+use Rattle.mr_plain_lists.specs.Finding.{HasPlace}
 use Rattle.mr_plain_lists.specs.Knowing.{awaiting}
 use Rattle.mr_plain_lists.specs.SmallRequests.{IsSmall}
 use Rattle.mr_plain_lists.specs.declared.known.Group.{Group}
@@ -33,7 +34,7 @@ size_of _ = 0
 -- tell and attempt
 pub record HasRoom (size : ℕ) (k : Known) : Type 0 where
   pub vifs : vec_len k.vifs < vec_capacity k.vifs
-  pub routes : vec_len k.routes < vec_capacity k.routes
+  pub routes : HasPlace k.routes
   pub waiting : vec_len k.waiting < vec_capacity k.waiting
   pub unread : vec_len k.unread + size ≤ vec_capacity k.unread
   pub attempts : vec_len k.attempts + size ≤ vec_capacity k.attempts

@@ -28,7 +28,7 @@ pub fn gather(
     ensures { (limits : Limits) (h : List Entry) (past : Past) →
         Holds limits h known.now mets.now past lines.now → IfOk result (λ e. e ≡ ending limits h) }
 {
-    let routes = route_lines(alloc, known.routes.as_slice(), mets)?;
+    let routes = route_lines(alloc, &known.routes, mets)?;
     let vifs = vif_lines(alloc, known.vifs.as_slice(), mets)?;
     let fates = Vec::from_slice(alloc, lines)?;
     Ok(Ending {

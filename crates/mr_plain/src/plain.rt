@@ -98,11 +98,7 @@ impl Plain {
         ensures { result ≡ verdict self.now.limits self.now.history flow.now.dev flow.now.src
             flow.now.dst flow.now.ttl }
     {
-        verdict(
-            self.known.vifs.as_slice(),
-            self.known.routes.as_slice(),
-            flow,
-        )
+        verdict(self.known.vifs.as_slice(), &self.known.routes, flow)
     }
 
     /// What the machine answers to a call behind the history.

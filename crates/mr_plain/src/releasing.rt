@@ -20,14 +20,14 @@ ghost use Rattle.mr_plain_lists.specs.SmallRequests.{IsSmall};
 use mr_base::{Addr, DaemonNo, MOST_UNREAD, Route};
 use mr_model::{MfcCtl, Outcome, ReleasedId, Report, Request};
 use mr_plain_lists::{
-    Held, Known, Reports, group_of, has_named, is_entry, is_owner, judged, proxy_in, reaches,
-    reports_of, thresholds, vif_on,
+    Held, Known, Reports, Routes, group_of, has_named, is_entry, is_owner, judged, proxy_in,
+    reaches, reports_of, thresholds, vif_on,
 };
 use std::alloc::{AllocError, Global};
 
 /// The first (0.0.0.0, 0.0.0.0) entry that reaches a vif, with a new entry in front.
-fn proxy_with(first: &Route, rest: &[Route], vif: u8) -> Option<Route>
-    ensures { result ≡ proxy_in (first.now ∷ rest.now) vif }
+fn proxy_with(first: &Route, rest: &Routes, vif: u8) -> Option<Route>
+    ensures { result ≡ proxy_in (first.now ∷ rest.now.items) vif }
 {
     if is_entry(first, Addr(0), Addr(0)) && reaches(first, vif) {
         Some(*first)
@@ -37,8 +37,8 @@ fn proxy_with(first: &Route, rest: &[Route], vif: u8) -> Option<Route>
 }
 
 /// Whether a packet that came in on this vif passes by the proxy entry of a new entry's parent.
-fn proxied_with(first: &Route, rest: &[Route], vif: Option<u8>) -> bool
-    ensures { result ≡ passes_proxied (first.now ∷ rest.now) first.now vif }
+fn proxied_with(first: &Route, rest: &Routes, vif: Option<u8>) -> bool
+    ensures { result ≡ passes_proxied (first.now ∷ rest.now.items) first.now vif }
 {
     let Some(vif) = vif else {
         return false;
@@ -116,7 +116,7 @@ fn put_released(
         return Ok(Vec::new(alloc));
     };
     let vif = vif_on(known.vifs.as_slice(), w.flow.dev);
-    let proxied = proxied_with(route, known.routes.as_slice(), vif);
+    let proxied = proxied_with(route, &known.routes, vif);
     let outcome = judged(known, reports, proxied, route, w.flow.dev, w.flow.ttl);
     let reports = reports_after(known, route, reports, &outcome);
     let mut released = put_released(alloc, known, route, reports, later)?;
@@ -150,7 +150,7 @@ fn are_released(
         return false;
     };
     let vif = vif_on(known.vifs.as_slice(), w.flow.dev);
-    let proxied = proxied_with(route, known.routes.as_slice(), vif);
+    let proxied = proxied_with(route, &known.routes, vif);
     let outcome = judged(known, reports, proxied, route, w.flow.dev, w.flow.ttl);
     let reports = reports_after(known, route, reports, &outcome);
     x.lane == w.lane
@@ -193,7 +193,7 @@ fn released_for(
         IsTrue result ↔ (released.now ≡ release s (made_route (state_of known.now) daemon c.now)
         (freed_by (state_of known.now) c.now parent)) }
 {
-    if has_named(known.routes.as_slice(), c.src, c.dst, parent) {
+    if has_named(&known.routes, c.src, c.dst, parent) {
         return released.is_empty();
     }
     match group_of(known.waiting.as_slice(), c.src, c.dst) {
@@ -228,7 +228,7 @@ fn released_of(
         IfOk result (λ v. v.items ≡ release s (made_route (state_of known.now) daemon c.now)
         (freed_by (state_of known.now) c.now parent)) }
 {
-    if has_named(known.routes.as_slice(), c.src, c.dst, parent) {
+    if has_named(&known.routes, c.src, c.dst, parent) {
         return Ok(Vec::new(alloc));
     }
     match group_of(known.waiting.as_slice(), c.src, c.dst) {

@@ -26,7 +26,7 @@ fn make_room_in(known: &mut Known, size: usize) -> Result<(), AllocError>
     ensures room { OnOk result (HasRoom size known.new) }
 {
     known.vifs.reserve(1)?;
-    known.routes.reserve(1)?;
+    known.routes.reserve()?;
     known.waiting.reserve(1)?;
     known.unread.reserve(size)?;
     known.attempts.reserve(size)

@@ -14,6 +14,7 @@ ghost use Rattle.mr_model.specs.State.{granted, reported, after_released, arrive
 ghost use Rattle.mr_model.specs.State.{received, called, effect, step};
 ghost use Rattle.mr_model.specs.State.{owner_by, waiting_by, unread_by};
 ghost use Rattle.mr_model.specs.WaitingList.{is_awaiting, park, without_awaiting, unexpired};
+ghost use Rattle.mr_plain_lists.specs.Finding.{HasPlace};
 ghost use Rattle.mr_plain_lists.specs.Knowing.{IsGroup, AreGroups, waiter, awaiting, attempt};
 ghost use Rattle.mr_plain_lists.specs.Knowing.{state_of};
 ghost use Rattle.mr_plain_lists.specs.SmallRequests.{IsSmall};
@@ -203,7 +204,7 @@ fn drop_waiting(known: &mut Known, request: &Request)
     ensures few { AreGroups known.old.waiting.items → AreGroups known.new.waiting.items }
     ensures rest { known.new ≡ record known.old { waiting = known.new.waiting } }
 {
-    let routes = known.routes.as_slice();
+    let routes = &known.routes;
     match request {
         Request::AddMfc(c) => {
             if !has_named(routes, c.src, c.dst, None) {
@@ -250,7 +251,7 @@ fn grant(known: &mut Known, daemon: DaemonNo, devices: &[Device], request: &Requ
     requires devices { length devices.now ≤ MOST_DEVICES }
     requires count { known.old.count < 4294967295 }
     requires vifs { vec_len known.old.vifs < vec_capacity known.old.vifs }
-    requires routes { vec_len known.old.routes < vec_capacity known.old.routes }
+    requires routes { HasPlace known.old.routes }
     ensures state { (limits : Limits) → limits.devices ≡ devices.now →
         state_of known.new ≡ granted limits (state_of known.old) daemon request.now }
     ensures few { AreGroups known.old.waiting.items → AreGroups known.new.waiting.items }
@@ -324,7 +325,7 @@ fn call(
     requires devices { length devices.now ≤ MOST_DEVICES }
     requires count { known.old.count < 4294967295 }
     requires vifs { vec_len known.old.vifs < vec_capacity known.old.vifs }
-    requires routes { vec_len known.old.routes < vec_capacity known.old.routes }
+    requires routes { HasPlace known.old.routes }
     requires unread { vec_len known.old.unread + length released.now
         ≤ vec_capacity known.old.unread }
     requires attempts { vec_len known.old.attempts + length released.now

@@ -6,8 +6,8 @@ ghost use Rattle.mr_plain.specs.Pasts.{AreSmall};
 use crate::Plain;
 use mr_base::{Addr, DaemonNo, Device, Few, LaneNo, List, Mask};
 use mr_model::{
-    Cause, Entry, Flow, Kind, Limits, MessageId, MfcCtl, Outcome, ReleasedId, Reply, Report,
-    Request, RouteTotals, Verdict, VifCtl,
+    Cause, Entry, Flow, Kind, Limits, MessageId, MfcCtl, MfcKey, Outcome, ReleasedId, Reply,
+    Report, Request, RouteTotals, Verdict, VifCtl,
 };
 use std::alloc::Global;
 use std::test::Fail;
@@ -316,6 +316,25 @@ const LEAVING: &[Row] = &[
     (Step::Call(1, Request::Finish, Reply::Good, NOBODY), true),
 ];
 
+/// `delmfc` of the entry.
+const GONE: Request = Request::DelMfc(MfcKey {
+    src: SENDER,
+    dst: GROUP,
+    parent: 0,
+});
+
+/// An entry goes and comes again, with the number of the call that makes it anew.
+const AGAIN: &[Row] = &[
+    INIT,
+    VIF_0,
+    VIF_1,
+    (Step::Call(1, ENTRY, Reply::Good, NOBODY), true),
+    (Step::Call(1, GONE, Reply::Good, NOBODY), true),
+    (Step::Call(1, GONE, Reply::Good, NOBODY), false),
+    (Step::Call(1, ENTRY, Reply::Good, NOBODY), true),
+    (Step::Call(1, ENTRY, Reply::Good, NOBODY), true),
+];
+
 #[test]
 fn waiting_packets(rt: HostRuntime) -> Result<(), Fail> {
     let limits = limits(rt.alloc(), 5, &[true])?;
@@ -330,6 +349,15 @@ fn wrong_interface(rt: HostRuntime) -> Result<(), Fail> {
     let limits = limits(rt.alloc(), 3, &[true])?;
     let mut plain = machine(&limits, rt.alloc())?;
     assert!(rt; plays(&mut plain, WRONG));
+    Ok(())
+}
+
+#[test]
+fn entry_comes_again(rt: HostRuntime) -> Result<(), Fail> {
+    let limits = limits(rt.alloc(), 1, &[true])?;
+    let mut plain = machine(&limits, rt.alloc())?;
+    assert!(rt; plays(&mut plain, AGAIN));
+    assert!(rt; matches!(&plain.verdict(&flow(1)), Verdict::Forward { entry: 6, .. }));
     Ok(())
 }
 

@@ -1,3 +1,8 @@
 pub mod Highest
 pub mod Bits
 pub mod Places
+pub mod Walking
+pub mod Steps
+pub mod Editing
+pub mod Fading
+pub mod Asked

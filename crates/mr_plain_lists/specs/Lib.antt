@@ -1,3 +1,5 @@
 pub mod Knowing
 pub mod SmallRequests
 pub mod Endings
+pub mod Finding
+pub mod Indexed

@@ -1,20 +1,20 @@
 //! What a good call changes in the tables (ipmr.c, `ip_mroute_setsockopt`).
 
-ghost use Rattle.std.specs.Prelude.{◌≡◌, ◌<◌, ◌≤◌, ◌∷◌, find, length};
-ghost use Rattle.std.specs.List.{position};
+ghost use Rattle.std.specs.Prelude.{◌≡◌, ◌<◌, ◌≤◌, find, length};
 ghost use Rattle.std.specs.Vec.{vec_len, vec_capacity};
 ghost use Rattle.mr_base.specs.declared.limits.TheConstants.{MOST_DEVICES};
 ghost use Rattle.mr_model.specs.Granting.{route_change, number_found, what_of, numbered};
-ghost use Rattle.mr_model.specs.RouteList.{is_named, has_number, change_first, remove_first};
-ghost use Rattle.mr_model.specs.RouteList.{changed_to, routes_kept};
+ghost use Rattle.mr_model.specs.RouteList.{is_named, routes_kept};
 ghost use Rattle.mr_model.specs.Tables.{vifs_after, routes_after, pim_after, asserts_after};
 ghost use Rattle.mr_model.specs.Tables.{changed_by};
 ghost use Rattle.mr_model.specs.VifList.{without_vif, vifs_kept, has_flag};
+ghost use Rattle.mr_plain_lists.specs.Finding.{HasPlace};
 ghost use Rattle.mr_plain_lists.specs.Knowing.{state_of};
 ghost use Rattle.mr_plain_lists.specs.SmallRequests.{IsSmall};
 
 use crate::entries::{named, thresholds};
 use crate::known::Known;
+use crate::routes::Routes;
 use crate::vifs::{REGISTER, vif_device};
 use mr_base::{Addr, Device, Route, VifRecord};
 use mr_model::{MfcCtl, Request, What};
@@ -60,8 +60,9 @@ fn route_change(vifs: &[VifRecord], fixed: bool, c: &MfcCtl, old: Option<Route>)
 }
 
 /// The number of an entry; 0 where there is none.
-fn number_found(routes: &[Route], src: Addr, dst: Addr, parent: Option<u16>) -> u32
-    ensures { result ≡ number_found (find (is_named src dst parent) routes.now) }
+fn number_found(routes: &Routes, src: Addr, dst: Addr, parent: Option<u16>) -> u32
+    ensures { result ≡ number_found (find (is_named src dst parent)
+        routes.now.items) }
 {
     match named(routes, src, dst, parent) {
         None => 0,
@@ -75,7 +76,7 @@ pub fn what_of(known: &Known, devices: &[Device], fixed: bool, request: &Request
     requires devices { length devices.now ≤ MOST_DEVICES }
     ensures { result ≡ what_of devices.now (state_of known.now).tables fixed request.now }
 {
-    let (vifs, routes) = (known.vifs.as_slice(), known.routes.as_slice());
+    let (vifs, routes) = (known.vifs.as_slice(), &known.routes);
     Some(match request {
         Request::Finish => What::Flush(MRT_FLUSH_MFC | MRT_FLUSH_VIFS),
         Request::AddVif(c) => What::AddVif {
@@ -144,66 +145,18 @@ fn change_vifs(vifs: &mut Vec<VifRecord>, number: u32, what: &What)
     }
 }
 
-/// An entry with another parent, other thresholds, static or not.
-fn changed_to(route: &Route, parent: u8, ttls: [u8; 32], fixed: bool) -> Route
-    ensures { result ≡ changed_to parent ttls fixed route.now }
-{
-    Route {
-        parent,
-        ttls,
-        fixed,
-        ..*route
-    }
-}
-
-/// The place of the first entry of this number.
-fn place_of(routes: &[Route], number: u32) -> Option<usize>
-    ensures { result ≡ position (has_number number) routes.now }
-{
-    routes.iter().position(|r| r.number == number)
-}
-
-/// Changes the first entry of this number, if there is one.
-fn change_route(routes: &mut Vec<Route>, target: u32, parent: u8, ttls: [u8; 32], fixed: bool)
-    ensures { routes.new.items ≡ change_first (has_number target) (changed_to parent ttls fixed)
-        routes.old.items }
-{
-    let place = place_of(routes.as_slice(), target);
-    if let Some(at) = place {
-        routes[at] = changed_to(&routes[at], parent, ttls, fixed);
-    }
-}
-
-/// Takes out the first entry of this number, if there is one.
-fn remove_route(routes: &mut Vec<Route>, target: u32)
-    ensures { routes.new.items ≡ remove_first (has_number target) routes.old.items }
-{
-    let place = place_of(routes.as_slice(), target);
-    if let Some(at) = place {
-        let _ = routes.remove(at);
-    }
-}
-
 /// Takes out the entries that a flush removes.
-fn flush_routes(routes: &mut Vec<Route>, flags: u32)
+fn flush_routes(routes: &mut Routes, flags: u32)
     ensures { routes.new.items ≡ routes_kept flags routes.old.items }
 {
     let loose = has_flag(flags, MRT_FLUSH_MFC);
     let fixed = has_flag(flags, MRT_FLUSH_MFC_STATIC);
-    routes.retain(|r| !(if r.fixed { fixed } else { loose }));
-}
-
-/// A new entry stands first.
-fn add_route(routes: &mut Vec<Route>, route: Route)
-    requires { vec_len routes.old < vec_capacity routes.old }
-    ensures { routes.new.items ≡ route ∷ routes.old.items }
-{
-    let _ = routes.insert(0, route);
+    routes.flush(loose, fixed);
 }
 
 /// The entries behind change `number`.
-fn change_routes(routes: &mut Vec<Route>, number: u32, what: &What)
-    requires { vec_len routes.old < vec_capacity routes.old }
+fn change_routes(routes: &mut Routes, number: u32, what: &What)
+    requires { HasPlace routes.old }
     ensures { routes.new.items ≡ routes_after routes.old.items number what.now }
 {
     match *what {
@@ -213,24 +166,21 @@ fn change_routes(routes: &mut Vec<Route>, number: u32, what: &What)
             parent,
             ttls,
             fixed,
-        } => add_route(
-            routes,
-            Route {
-                number,
-                src,
-                dst,
-                parent,
-                ttls,
-                fixed,
-            },
-        ),
+        } => routes.add(Route {
+            number,
+            src,
+            dst,
+            parent,
+            ttls,
+            fixed,
+        }),
         What::OldRoute {
             target,
             parent,
             ttls,
             fixed,
-        } => change_route(routes, target, parent, ttls, fixed),
-        What::DropRoute(target) => remove_route(routes, target),
+        } => routes.change(target, parent, ttls, fixed),
+        What::DropRoute(target) => routes.remove(target),
         What::Flush(flags) => flush_routes(routes, flags),
         _ => {}
     }
@@ -260,7 +210,7 @@ fn asserts_after(pim: bool, asserts: bool, what: &What) -> bool
 /// Makes change `number`.
 pub fn change(known: &mut Known, number: u32, what: &What)
     requires vifs { vec_len known.old.vifs < vec_capacity known.old.vifs }
-    requires routes { vec_len known.old.routes < vec_capacity known.old.routes }
+    requires routes { HasPlace known.old.routes }
     ensures state { state_of known.new ≡ record (state_of known.old) {
       tables = changed_by (state_of known.old).tables (numbered number what.now);
     } }

@@ -7,6 +7,7 @@ ghost use Rattle.mr_plain_lists.specs.Knowing.{met_of};
 
 use crate::counting::{route_sums, vif_sums};
 use crate::known::Meeting;
+use crate::routes::Routes;
 use crate::vifs::vif_at;
 use mr_base::{Route, VifRecord};
 use mr_model::{RouteTotals, VifTotals};
@@ -17,15 +18,6 @@ const INDEXES: [u8; 32] = [
     0, 1, 2, 3, 4, 5, 6, 7, 8, 9, 10, 11, 12, 13, 14, 15, 16, 17, 18, 19, 20, 21, 22, 23, 24, 25,
     26, 27, 28, 29, 30, 31,
 ];
-
-/// The entries by rising number.
-fn oldest_first(alloc: Global, routes: &[Route]) -> Result<Vec<Route>, AllocError>
-    ensures { IfOk result (λ v. v.items ≡ reverse routes.now) }
-{
-    let mut oldest = Vec::from_slice(alloc, routes)?;
-    oldest.as_mut_slice().reverse();
-    Ok(oldest)
-}
 
 /// Entries with their totals.
 fn route_pairs(
@@ -50,14 +42,14 @@ fn route_pairs(
 /// [`AllocError`] where memory runs out.
 pub fn route_lines(
     alloc: Global,
-    routes: &[Route],
+    routes: &Routes,
     mets: &[Meeting],
 ) -> Result<Vec<(Route, RouteTotals)>, AllocError>
     requires { length mets.now < 2 ^ 32 }
     ensures { IfOk result (λ v. v.items
-        ≡ map (route_pair (map met_of mets.now)) (reverse routes.now)) }
+        ≡ map (route_pair (map met_of mets.now)) (reverse routes.now.items)) }
 {
-    let oldest = oldest_first(alloc, routes)?;
+    let oldest = routes.oldest_first(alloc)?;
     route_pairs(alloc, oldest.as_slice(), mets)
 }
 

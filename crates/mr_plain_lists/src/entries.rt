@@ -1,4 +1,4 @@
-//! The (S,G) entries as a list, newest first (ipmr.c, `ipmr_cache_find` and its like).
+//! Which (S,G) entry is found (ipmr.c, `ipmr_cache_find` and its like).
 
 ghost use Rattle.std.specs.Prelude.{◌≡◌, find};
 ghost use Rattle.std.specs.List.{list_any};
@@ -7,6 +7,7 @@ ghost use Rattle.mr_model.specs.Found.{wildcard_in};
 ghost use Rattle.mr_model.specs.RouteList.{ttl_of, is_entry, has_parent, is_named};
 ghost use Rattle.mr_model.specs.RouteList.{threshold, thresholds_from, is_group};
 
+use crate::routes::Routes;
 use crate::vifs::{has_vif, vif_on};
 use mr_base::{Addr, MAXVIFS, Route, VifRecord};
 
@@ -48,66 +49,44 @@ fn has_parent(route: &Route, parent: Option<u16>) -> bool
     }
 }
 
-/// Whether an entry has this origin, this group and, where one is given, this parent.
-pub fn is_named(route: &Route, src: Addr, dst: Addr, parent: Option<u16>) -> bool
-    ensures { result ≡ is_named src dst parent route.now }
-{
-    is_entry(route, src, dst) && has_parent(route, parent)
-}
-
 /// The first entry of this name.
-pub fn named(routes: &[Route], src: Addr, dst: Addr, parent: Option<u16>) -> Option<Route>
-    ensures { result ≡ find (is_named src dst parent) routes.now }
+pub fn named(routes: &Routes, src: Addr, dst: Addr, parent: Option<u16>) -> Option<Route>
+    ensures { result ≡ find (is_named src dst parent) routes.now.items }
 {
-    for r in routes {
-        if is_named(r, src, dst, parent) {
-            return Some(*r);
-        }
-    }
-    None
+    routes.first(src, dst, |r| has_parent(r, parent))
 }
 
 /// The first entry of this origin and group.
-pub fn exact(routes: &[Route], src: Addr, dst: Addr) -> Option<Route>
-    ensures { result ≡ find (is_entry src dst) routes.now }
+pub fn exact(routes: &Routes, src: Addr, dst: Addr) -> Option<Route>
+    ensures { result ≡ find (is_entry src dst) routes.now.items }
 {
-    for r in routes {
-        if is_entry(r, src, dst) {
-            return Some(*r);
-        }
-    }
-    None
+    named(routes, src, dst, None)
 }
 
 /// Whether there is an entry of this name.
-pub fn has_named(routes: &[Route], src: Addr, dst: Addr, parent: Option<u16>) -> bool
-    ensures { result ≡ list_any (is_named src dst parent) routes.now }
+pub fn has_named(routes: &Routes, src: Addr, dst: Addr, parent: Option<u16>) -> bool
+    ensures { result ≡ list_any (is_named src dst parent) routes.now.items }
 {
-    routes.iter().any(|r| is_named(r, src, dst, parent))
+    named(routes, src, dst, parent).is_some()
 }
 
 /// Whether there is an entry of this origin and group.
-pub fn has_entry(routes: &[Route], src: Addr, dst: Addr) -> bool
-    ensures { result ≡ list_any (is_entry src dst) routes.now }
+pub fn has_entry(routes: &Routes, src: Addr, dst: Addr) -> bool
+    ensures { result ≡ list_any (is_entry src dst) routes.now.items }
 {
-    routes.iter().any(|r| is_entry(r, src, dst))
+    exact(routes, src, dst).is_some()
 }
 
 /// The first (0.0.0.0, 0.0.0.0) entry that reaches a vif.
-pub fn proxy_in(routes: &[Route], vif: u8) -> Option<Route>
-    ensures { result ≡ proxy_in routes.now vif }
+pub fn proxy_in(routes: &Routes, vif: u8) -> Option<Route>
+    ensures { result ≡ proxy_in routes.now.items vif }
 {
-    for r in routes {
-        if is_entry(r, Addr(0), Addr(0)) && reaches(r, vif) {
-            return Some(*r);
-        }
-    }
-    None
+    routes.first(Addr(0), Addr(0), |r| reaches(r, vif))
 }
 
 /// Whether the proxy entry of an entry's parent reaches a vif.
-pub fn is_proxied(routes: &[Route], route: &Route, vif: u8) -> bool
-    ensures { result ≡ is_proxied routes.now route.now vif }
+pub fn is_proxied(routes: &Routes, route: &Route, vif: u8) -> bool
+    ensures { result ≡ is_proxied routes.now.items route.now vif }
 {
     match proxy_in(routes, route.parent) {
         None => false,
@@ -116,27 +95,22 @@ pub fn is_proxied(routes: &[Route], route: &Route, vif: u8) -> bool
 }
 
 /// Whether an entry, or the proxy entry of its parent, reaches a vif.
-fn serves(routes: &[Route], route: &Route, vif: u8) -> bool
-    ensures { result ≡ serves routes.now route.now vif }
+fn serves(routes: &Routes, route: &Route, vif: u8) -> bool
+    ensures { result ≡ serves routes.now.items route.now vif }
 {
     reaches(route, vif) || is_proxied(routes, route, vif)
 }
 
 /// The first (0.0.0.0, G) entry that serves a vif.
-fn star_in(routes: &[Route], dst: Addr, vif: u8) -> Option<Route>
-    ensures { result ≡ star_in routes.now dst vif }
+fn star_in(routes: &Routes, dst: Addr, vif: u8) -> Option<Route>
+    ensures { result ≡ star_in routes.now.items dst vif }
 {
-    for r in routes {
-        if is_entry(r, Addr(0), dst) && serves(routes, r, vif) {
-            return Some(*r);
-        }
-    }
-    None
+    routes.first(Addr(0), dst, |r| serves(routes, r, vif))
 }
 
 /// The entry for any origin that a packet meets, where its device has a vif.
-fn wildcard(routes: &[Route], vif: Option<u8>, dst: Addr) -> Option<Route>
-    ensures { result ≡ wildcard_in routes.now vif dst }
+fn wildcard(routes: &Routes, vif: Option<u8>, dst: Addr) -> Option<Route>
+    ensures { result ≡ wildcard_in routes.now.items vif dst }
 {
     let vif = vif?;
     match star_in(routes, dst, vif) {
@@ -146,8 +120,8 @@ fn wildcard(routes: &[Route], vif: Option<u8>, dst: Addr) -> Option<Route>
 }
 
 /// The entry that a packet meets.
-pub fn found(vifs: &[VifRecord], routes: &[Route], dev: u32, src: Addr, dst: Addr) -> Option<Route>
-    ensures { result ≡ found_in vifs.now routes.now dev src dst }
+pub fn found(vifs: &[VifRecord], routes: &Routes, dev: u32, src: Addr, dst: Addr) -> Option<Route>
+    ensures { result ≡ found_in vifs.now routes.now.items dev src dst }
 {
     match exact(routes, src, dst) {
         Some(route) => Some(route),

@@ -8,6 +8,7 @@ ghost use Rattle.mr_model.specs.Verdict.{is_in, is_vif, comes_by_parent, passes_
 ghost use Rattle.mr_model.specs.Verdict.{outs_of, input_of, has_register, judge_in, verdict_in};
 
 use crate::entries::{found, is_entry, is_proxied, ttl_of};
+use crate::routes::Routes;
 use crate::vifs::{has_vif, register_vif, vif_at, vif_on};
 use mr_base::{Addr, Mask, Route, VifRecord};
 use mr_model::{Flow, Verdict};
@@ -40,8 +41,8 @@ fn comes_by_parent(vifs: &[VifRecord], route: &Route, dev: u32) -> bool
 }
 
 /// Whether a packet that came in on this vif passes by the proxy entry of an entry's parent.
-pub fn passes_proxied(routes: &[Route], route: &Route, vif: Option<u8>) -> bool
-    ensures { result ≡ passes_proxied routes.now route.now vif }
+pub fn passes_proxied(routes: &Routes, route: &Route, vif: Option<u8>) -> bool
+    ensures { result ≡ passes_proxied routes.now.items route.now vif }
 {
     match vif {
         None => false,
@@ -116,9 +117,9 @@ pub fn judge(vifs: &[VifRecord], proxied: bool, route: &Route, dev: u32, ttl: u8
 }
 
 /// The verdict on a packet.
-pub fn verdict(vifs: &[VifRecord], routes: &[Route], flow: &Flow) -> Verdict
+pub fn verdict(vifs: &[VifRecord], routes: &Routes, flow: &Flow) -> Verdict
     requires { AllByRecursion (λ v. v.vif < 32) vifs.now }
-    ensures { result ≡ verdict_in vifs.now routes.now flow.now.dev flow.now.src flow.now.dst
+    ensures { result ≡ verdict_in vifs.now routes.now.items flow.now.dev flow.now.src flow.now.dst
         flow.now.ttl }
 {
     match found(vifs, routes, flow.dev, flow.src, flow.dst) {

@@ -2,7 +2,8 @@
 
 ghost use Rattle.std.specs.Prelude.{◌≡◌};
 
-use mr_base::{Addr, DaemonNo, LaneNo, Mask, Route, VifRecord};
+use crate::routes::Routes;
+use mr_base::{Addr, DaemonNo, LaneNo, Mask, VifRecord};
 use mr_model::{Flow, MessageId};
 use std::alloc::Global;
 
@@ -61,8 +62,7 @@ pub struct Known {
     pub owner: Option<DaemonNo>,
     /// In the order in which they were added.
     pub vifs: Vec<VifRecord>,
-    /// Newest first.
-    pub routes: Vec<Route>,
+    pub routes: Routes,
     pub pim: bool,
     pub asserts: bool,
     /// Milliseconds since the beginning.
@@ -87,7 +87,7 @@ impl Known {
             count: 0,
             owner,
             vifs: Vec::new(alloc),
-            routes: Vec::new(alloc),
+            routes: Routes::new(alloc),
             pim: false,
             asserts: false,
             moment: 0,

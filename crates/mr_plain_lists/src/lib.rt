@@ -11,6 +11,8 @@ mod known;
 mod outcomes;
 mod refusing;
 mod replying;
+mod routes;
+mod slots;
 mod vifs;
 
 pub use changing::{MRT_FLUSH_MFC, change, has_flag, what_of};
@@ -21,4 +23,5 @@ pub use known::{Group, Held, Known, MOST_HELD, Meeting, Tried};
 pub use outcomes::{Reports, group_of, is_owner, judged, outcome, reports_of};
 pub use refusing::error_of;
 pub use replying::reply;
+pub use routes::Routes;
 pub use vifs::{register_vif, vif_on};

@@ -219,7 +219,7 @@ pub fn outcome(known: &Known, limits: &Limits, flow: &Flow) -> Outcome
     requires groups { AreGroups known.now.waiting.items }
     ensures { result ≡ outcome_in limits.now (state_of known.now) flow.now }
 {
-    let (vifs, routes) = (known.vifs.as_slice(), known.routes.as_slice());
+    let (vifs, routes) = (known.vifs.as_slice(), &known.routes);
     match found(vifs, routes, flow.dev, flow.src, flow.dst) {
         None => unmet(known, limits, flow),
         Some(route) => {

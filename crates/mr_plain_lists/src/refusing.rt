@@ -12,8 +12,9 @@ ghost use Rattle.mr_plain_lists.specs.Knowing.{state_of};
 use crate::entries::{has_entry, has_named, is_group};
 use crate::known::Known;
 use crate::outcomes::is_owner;
+use crate::routes::Routes;
 use crate::vifs::{REGISTER, USE_IFINDEX, device_meant, has_vif, max_vif, register_vif};
-use mr_base::{Addr, DaemonNo, Device, Errno, MAXVIFS, Route, VifRecord};
+use mr_base::{Addr, DaemonNo, Device, Errno, MAXVIFS, VifRecord};
 use mr_model::{Limits, MfcCtl, Request, VifCtl};
 
 /// The option MRT_INIT, whose record has no check of access.
@@ -69,8 +70,8 @@ fn del_vif_error(vifs: &[VifRecord], vif: u16) -> Option<Errno>
 
 /// Why MRT_ADD_MFC is refused by the entries that are there, of which there may be `most`;
 /// `parent`: where it too names the entry.
-fn add_route_error(most: u32, routes: &[Route], c: &MfcCtl, parent: Option<u16>) -> Option<Errno>
-    ensures { result ≡ add_route_error most routes.now c.now parent }
+fn add_route_error(most: u32, routes: &Routes, c: &MfcCtl, parent: Option<u16>) -> Option<Errno>
+    ensures { result ≡ add_route_error most routes.now.items c.now parent }
 {
     if MAXVIFS <= c.parent {
         return Some(Errno::TooManyVifs);
@@ -88,8 +89,8 @@ fn add_route_error(most: u32, routes: &[Route], c: &MfcCtl, parent: Option<u16>)
 }
 
 /// Why MRT_DEL_MFC is refused by the entries that are there.
-fn del_route_error(routes: &[Route], src: Addr, dst: Addr, parent: Option<u16>) -> Option<Errno>
-    ensures { result ≡ del_route_error routes.now src dst parent }
+fn del_route_error(routes: &Routes, src: Addr, dst: Addr, parent: Option<u16>) -> Option<Errno>
+    ensures { result ≡ del_route_error routes.now.items src dst parent }
 {
     if has_named(routes, src, dst, parent) {
         None
@@ -103,7 +104,7 @@ fn refused_by_tables(known: &Known, limits: &Limits, request: &Request) -> Optio
     requires { length limits.now.devices ≤ MOST_DEVICES }
     ensures { result ≡ refused_by_tables limits.now (state_of known.now) request.now }
 {
-    let (vifs, routes) = (known.vifs.as_slice(), known.routes.as_slice());
+    let (vifs, routes) = (known.vifs.as_slice(), &known.routes);
     match request {
         Request::AddVif(c) => add_vif_error(limits.devices.0.as_slice(), vifs, c),
         Request::DelVif(vif) => del_vif_error(vifs, *vif),
@@ -166,7 +167,7 @@ pub fn error_of(
         Request::BadLength(_) => permitted(known, limits, daemon, Some(Errno::Invalid)),
         Request::GetVersion | Request::GetPim | Request::GetAssert => None,
         Request::VifCount(vif) => vif_count_error(known.vifs.as_slice(), vif),
-        Request::SgCount { src, dst } if has_entry(known.routes.as_slice(), src, dst) => None,
+        Request::SgCount { src, dst } if has_entry(&known.routes, src, dst) => None,
         Request::SgCount { .. } => Some(Errno::NotAvailable),
         Request::AddVif(_)
         | Request::DelVif(_)

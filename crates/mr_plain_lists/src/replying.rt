@@ -39,7 +39,7 @@ fn value_of(known: &Known, mets: &[Meeting], request: &Request) -> Reply
             Some(v) => Reply::Vif(vif_sums(mets, &v)),
             None => Reply::Good,
         },
-        Request::SgCount { src, dst } => match exact(known.routes.as_slice(), src, dst) {
+        Request::SgCount { src, dst } => match exact(&known.routes, src, dst) {
             Some(route) => Reply::Sg(route_sums(mets, route.number)),
             None => Reply::Good,
         },
